@@ -1,0 +1,189 @@
+-- Laws of ℤ that stand for a ring tactic: an integer is written as a difference of two naturals (`Diff`), sums, products and squares
+-- of such differences are differences again, and what is left is a statement of ℕ, which `omega` proves.
+use mathlib.Core.Path.{_≡_, refl, sym, ap, _∙_}
+use mathlib.Core.Bool.{Bool, true, false, cond}
+use Prim.Native.Nat.{ℕ, zero, suc, _+_, _*_, _-_, _<_, _≤_, _^_}
+use native.Mathlib.Omega.{arith}
+use lib.Dec.{ltb, leb}
+use lib.IntN.{ℤ, pos, negsuc, natAbs, subℕ, negℤ, _+ℤ_, _-ℤ_, _*ℤ_}
+use lib.Signed.{mag, ltZ, leZ}
+use mir.Syntax.{Width, w64}
+use mir.Val.{SFits, hbits}
+use borrow.Author.Tests.{ltb-true, ltb-false, lt-ltb, le-ltb}
+
+-- how far apart two naturals are
+abbrev pub distance : ℕ → ℕ → ℕ
+distance a b = (a - b) + (b - a)
+
+-- ---- a − b of two naturals, by its sign
+
+pick : (t : Bool) (x y : ℤ) (P : ℤ → Type 0) → (t ≡ true → P x) → (t ≡ false → P y) → P (cond t x y)
+pick true x y P f g = f refl
+pick false x y P f g = g refl
+
+pub sub-cases : (a b : ℕ) (P : ℤ → Type 0) → ((k : ℕ) → a ≡ b + k → P (pos k)) → ((k : ℕ) → b ≡ suc (a + k) → P (negsuc k)) → P (subℕ a b)
+sub-cases a b P f g =
+    pick (ltb a b) (negsuc (b - suc a)) (pos (a - b)) P
+    (λ t. g (b - suc a) (omega (arith, ltb-true a b t)))
+    (λ t. f (a - b) (omega (arith, ltb-false a b t)))
+
+sub-pos : (a b k : ℕ) → a ≡ b + k → subℕ a b ≡ pos k
+sub-pos a b k e = sub-cases a b (λ z. z ≡ pos k) (λ j p. ap pos (omega arith)) (λ j p. absurd (omega arith))
+
+sub-neg : (a b k : ℕ) → b ≡ suc (a + k) → subℕ a b ≡ negsuc k
+sub-neg a b k e = sub-cases a b (λ z. z ≡ negsuc k) (λ j p. absurd (omega arith)) (λ j p. ap negsuc (omega arith))
+
+sub-same : (a b c d : ℕ) → a + d ≡ c + b → subℕ a b ≡ subℕ c d
+sub-same a b c d e = sub-cases c d (λ z. subℕ a b ≡ z) (λ k p. sub-pos a b k (omega arith)) (λ k p. sub-neg a b k (omega arith))
+
+neg-pos : (k : ℕ) → negℤ (pos k) ≡ subℕ 0 k
+neg-pos zero = refl
+neg-pos (suc k) = sym (sub-neg 0 (suc k) k (omega arith))
+
+sub-add : (a b c d : ℕ) → subℕ a b +ℤ subℕ c d ≡ subℕ (a + c) (b + d)
+sub-add a b c d =
+    sub-cases a b (λ z. z +ℤ subℕ c d ≡ subℕ (a + c) (b + d))
+    (λ i p. sub-cases c d (λ z. pos i +ℤ z ≡ subℕ (a + c) (b + d))
+    (λ j q. sym (sub-pos (a + c) (b + d) (i + j) (omega arith)))
+    (λ j q. sub-same i (suc j) (a + c) (b + d) (omega arith)))
+    (λ i p. sub-cases c d (λ z. negsuc i +ℤ z ≡ subℕ (a + c) (b + d))
+    (λ j q. sub-same j (suc i) (a + c) (b + d) (omega arith))
+    (λ j q. sym (sub-neg (a + c) (b + d) (suc (i + j)) (omega arith))))
+
+sub-negated : (a b : ℕ) → negℤ (subℕ a b) ≡ subℕ b a
+sub-negated a b =
+    sub-cases a b (λ z. negℤ z ≡ subℕ b a)
+    (λ k p. neg-pos k ∙ sub-same 0 k b a (omega arith))
+    (λ k p. sym (sub-pos b a (suc k) (omega arith)))
+
+sub-times : (n a b : ℕ) → pos n *ℤ subℕ a b ≡ subℕ (n * a) (n * b)
+sub-times n a b =
+    sub-cases a b (λ z. pos n *ℤ z ≡ subℕ (n * a) (n * b))
+    (λ k p. sym (sub-pos (n * a) (n * b) (n * k) (omega (arith, ap (λ (x : ℕ). n * x) p))))
+    (λ k p. neg-pos (n * suc k) ∙ sub-same 0 (n * suc k) (n * a) (n * b) (omega (arith, ap (λ (x : ℕ). n * x) p)))
+
+-- ---- the distance of two naturals
+
+pub distance-square : (a b : ℕ) → distance a b * distance a b + 2 * (a * b) ≡ a * a + b * b
+distance-square a b =
+    sub-cases a b (λ z. distance a b * distance a b + 2 * (a * b) ≡ a * a + b * b)
+    (λ k p. let e : distance a b ≡ k = omega arith in rw (e, p) (omega arith))
+    (λ k p. let e : distance a b ≡ suc k = omega arith in rw (e, p) (omega arith))
+
+sub-magnitude : (a b : ℕ) → natAbs (subℕ a b) ≡ distance a b
+sub-magnitude a b = sub-cases a b (λ z. natAbs z ≡ distance a b) (λ k p. omega arith) (λ k p. omega arith)
+
+-- ---- tests that go together
+
+pub same-test : (a b c d : ℕ) → (a < b → c < d) → (b ≤ a → d ≤ c) → ltb a b ≡ ltb c d
+same-test a b c d f g =
+    sub-cases a b (λ z. ltb a b ≡ ltb c d)
+    (λ k p. le-ltb a b (omega arith) ∙ sym (le-ltb c d (g (omega arith))))
+    (λ k p. lt-ltb a b (omega arith) ∙ sym (lt-ltb c d (f (omega arith))))
+
+sub-above : (a b : ℕ) → ltZ (pos 0) (subℕ a b) ≡ ltb b a
+sub-above a b =
+    sub-cases a b (λ z. ltZ (pos 0) z ≡ ltb b a)
+    (λ k p. same-test 0 k b a (λ h. omega arith) (λ h. omega arith))
+    (λ k p. sym (le-ltb b a (omega arith)))
+
+sub-below : (a b : ℕ) → ltZ (subℕ a b) (pos 0) ≡ ltb a b
+sub-below a b =
+    sub-cases a b (λ z. ltZ z (pos 0) ≡ ltb a b)
+    (λ k p. le-ltb k 0 (omega arith) ∙ sym (le-ltb a b (omega arith)))
+    (λ k p. sym (lt-ltb a b (omega arith)))
+
+-- ---- z is a − b
+
+pub record Diff (z : ℤ) (a b : ℕ) : Type 0 where
+  pub is : z ≡ subℕ a b
+
+pub of-pos : {n : ℕ} → Diff (pos n) n 0
+of-pos {n} = record { is = sym (sub-pos n 0 n (omega arith)) }
+
+pub of-neg : {n : ℕ} → Diff (negsuc n) 0 (suc n)
+of-neg {n} = record { is = sym (sub-neg 0 (suc n) n (omega arith)) }
+
+-- the two parts of any integer, of which one is 0
+abbrev pub up : ℤ → ℕ
+up (pos n) = n
+up (negsuc n) = 0
+
+abbrev pub down : ℤ → ℕ
+down (pos n) = 0
+down (negsuc n) = suc n
+
+pub of-any : (z : ℤ) → Diff z (up z) (down z)
+of-any (pos n) = of-pos
+of-any (negsuc n) = of-neg
+
+pub recast : {z : ℤ} {a b : ℕ} (c d : ℕ) → Diff z a b → a + d ≡ c + b → Diff z c d
+recast {a = a} {b = b} c d p e = record { is = p .is ∙ sub-same a b c d e }
+
+pub plus : {z y : ℤ} {a b c d : ℕ} → Diff z a b → Diff y c d → Diff (z +ℤ y) (a + c) (b + d)
+plus {y = y} {a = a} {b = b} {c = c} {d = d} p q =
+    record { is = ap (λ (x : ℤ). x +ℤ y) (p .is) ∙ ap (λ (x : ℤ). subℕ a b +ℤ x) (q .is) ∙ sub-add a b c d }
+
+pub negated : {z : ℤ} {a b : ℕ} → Diff z a b → Diff (negℤ z) b a
+negated {a = a} {b = b} p = record { is = ap negℤ (p .is) ∙ sub-negated a b }
+
+pub minus : {z y : ℤ} {a b c d : ℕ} → Diff z a b → Diff y c d → Diff (z -ℤ y) (a + d) (b + c)
+minus p q = plus p (negated q)
+
+pub times : (n : ℕ) {z : ℤ} {a b : ℕ} → Diff z a b → Diff (pos n *ℤ z) (n * a) (n * b)
+times n {a = a} {b = b} p = record { is = ap (λ (x : ℤ). pos n *ℤ x) (p .is) ∙ sub-times n a b }
+
+-- ---- squares
+
+pub square-magnitude : (z : ℤ) → z *ℤ z ≡ pos (natAbs z * natAbs z)
+square-magnitude (pos n) = refl
+square-magnitude (negsuc n) = refl
+
+pub magnitude : {z : ℤ} {a b : ℕ} → Diff z a b → natAbs z ≡ distance a b
+magnitude {a = a} {b = b} p = ap natAbs (p .is) ∙ sub-magnitude a b
+
+pub squared : {z : ℤ} {a b : ℕ} → Diff z a b → Diff (z *ℤ z) (a * a + b * b) (2 * (a * b))
+squared {z} {a} {b} p =
+    let m = natAbs z * natAbs z in
+    let q : Diff (z *ℤ z) m 0 = record { is = square-magnitude z ∙ of-pos {n = m} .is } in
+    recast (a * a + b * b) (2 * (a * b)) q (omega (arith, distance-square a b, ap (λ (x : ℕ). x * x) (magnitude p)))
+
+-- ---- what a difference says
+
+pub is-pos : {z : ℤ} {a b : ℕ} (k : ℕ) → Diff z a b → a ≡ b + k → z ≡ pos k
+is-pos {a = a} {b = b} k p e = p .is ∙ sub-pos a b k e
+
+pub is-above : {z : ℤ} {a b : ℕ} → Diff z a b → ltZ (pos 0) z ≡ ltb b a
+is-above {a = a} {b = b} p = ap (λ (x : ℤ). ltZ (pos 0) x) (p .is) ∙ sub-above a b
+
+pub is-below : {z : ℤ} {a b : ℕ} → Diff z a b → ltZ z (pos 0) ≡ ltb a b
+is-below {a = a} {b = b} p = ap (λ (x : ℤ). ltZ x (pos 0)) (p .is) ∙ sub-below a b
+
+pub equal : {z y : ℤ} {a b c d : ℕ} → Diff z a b → Diff y c d → a + d ≡ c + b → z ≡ y
+equal {c = c} {d = d} p q e = recast c d p e .is ∙ sym (q .is)
+
+-- the parts of one integer
+sub-parts : (a b : ℕ) → up (subℕ a b) + b ≡ a + down (subℕ a b)
+sub-parts a b = sub-cases a b (λ z. up z + b ≡ a + down z) (λ k p. omega arith) (λ k p. omega arith)
+
+pub parts : {z : ℤ} {a b : ℕ} → Diff z a b → up z + b ≡ a + down z
+parts {z} {a} {b} p = rw (p .is) (sub-parts a b)
+
+pub agree : {z y : ℤ} {a b c d : ℕ} → Diff z a b → Diff y c d → z ≡ y → a + d ≡ c + b
+agree {z} {y} {a} {b} {c} {d} p q e = omega (arith, parts p, parts q, ap up e, ap down e)
+
+-- ---- magnitudes, and what fits a width
+
+pub magnitude-plus : (z y : ℤ) → natAbs (z +ℤ y) ≤ natAbs z + natAbs y
+magnitude-plus z y = omega (arith, magnitude (plus (of-any z) (of-any y)), magnitude (of-any z), magnitude (of-any y))
+
+pub magnitude-negated : (z : ℤ) → natAbs (negℤ z) ≡ natAbs z
+magnitude-negated z = omega (arith, magnitude (negated (of-any z)), magnitude (of-any z))
+
+pub magnitude-times : (n : ℕ) (z : ℤ) → natAbs (pos n *ℤ z) ≡ n * natAbs z
+magnitude-times n (pos k) = refl
+magnitude-times n (negsuc k) = magnitude-negated (pos (n * suc k))
+
+pub small-fits : {w : Width} {z : ℤ} → natAbs z < 2 ^ hbits w → SFits w z
+small-fits {z = pos n} h = record { sfits = h }
+small-fits {z = negsuc n} h = record { sfits = omega arith }

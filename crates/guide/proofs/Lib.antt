@@ -1,0 +1,3 @@
+-- The laws about the paper's definitions.
+pub mod Integers
+pub mod Figures

@@ -1,0 +1,69 @@
+-- Document 01, "Base, limits, rejection": the sums of some words, and a word against the limits that these give. A limit is the mean
+-- plus or minus a multiple m of S, for any m. S is a square root, so a word is compared with a limit "by squares of whole
+-- numbers", with the sign of its deviation.
+use mathlib.Core.Bool.{Bool, _&&_, _||_}
+use mathlib.Core.List.{List, [], _∷_}
+use Prim.Native.Nat.{ℕ, _*_, _-_}
+use lib.ListN.{length}
+use lib.IntN.{ℤ, pos, _+ℤ_, _-ℤ_, _*ℤ_}
+use lib.Signed.{ltZ}
+use Rattle.guide.specs.Kind.{hasLower}
+
+-- "For n words let T be their sum, Q the sum of their squares"
+unfoldable pub sumOf : List ℤ → ℤ
+sumOf [] = pos 0
+sumOf (w ∷ ws) = w +ℤ sumOf ws
+
+unfoldable pub squaresOf : List ℤ → ℤ
+squaresOf [] = pos 0
+squaresOf (w ∷ ws) = w *ℤ w +ℤ squaresOf ws
+
+-- n, T and Q
+pub record Sums : Type 0 where
+  pub n : ℕ
+  pub t : ℤ
+  pub q : ℤ
+
+unfoldable pub sumsOf : List ℤ → Sums
+sumsOf ws = record { n = length ws; t = sumOf ws; q = squaresOf ws }
+
+-- "V = nQ − T²"; "S² = V / (n(n − 1))"
+unfoldable pub vOf : Sums → ℤ
+vOf s = pos (s .n) *ℤ s .q -ℤ s .t *ℤ s .t
+
+-- n times the deviation of w from the mean T/n: n·w − T
+unfoldable pub deviation : Sums → ℤ → ℤ
+deviation s w = pos (s .n) *ℤ w -ℤ s .t
+
+-- the deviation d / n is more than m·S away from 0: (d / n)² > m²·S², that is d²·(n − 1) > m²·n·V. With no word or one, none is
+unfoldable pub exceeds : ℕ → Sums → ℤ → Bool
+exceeds m s d = ltZ (pos (m * m * s .n) *ℤ vOf s) (d *ℤ d *ℤ pos (s .n - 1))
+
+-- w is above the mean + m·S; below the mean − m·S. "A word is beyond a limit if strictly outside it."
+unfoldable pub above : ℕ → Sums → ℤ → Bool
+above m s w = ltZ (pos 0) (deviation s w) && exceeds m s (deviation s w)
+
+unfoldable pub below : ℕ → Sums → ℤ → Bool
+below m s w = ltZ (deviation s w) (pos 0) && exceeds m s (deviation s w)
+
+-- what a word is judged by: a chart kind and the sums of the base
+pub record Limits : Type 0 where
+  pub kind : ℕ
+  pub sums : Sums
+
+unfoldable pub limitsOf : ℕ → List ℤ → Limits
+limitsOf kind base = record { kind = kind; sums = sumsOf base }
+
+-- beyond the upper limit at the multiple m; beyond the lower one, which "Kind 1" has not; beyond one of them
+unfoldable pub beyondUpper : ℕ → Limits → ℤ → Bool
+beyondUpper m limits w = above m (limits .sums) w
+
+unfoldable pub beyondLower : ℕ → Limits → ℤ → Bool
+beyondLower m limits w = hasLower (limits .kind) && below m (limits .sums) w
+
+unfoldable pub beyond : ℕ → Limits → ℤ → Bool
+beyond m limits w = beyondUpper m limits w || beyondLower m limits w
+
+-- "Control limits are the mean ± 3S"
+unfoldable pub beyondControl : Limits → ℤ → Bool
+beyondControl limits w = beyond 3 limits w

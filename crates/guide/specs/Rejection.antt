@@ -1,0 +1,46 @@
+-- Document 01, "Base, limits, rejection": rounds of rejection, what they leave, and how many rounds and words they take.
+use mathlib.Core.Bool.{Bool, true, false}
+use mathlib.Core.List.{List, [], _∷_}
+use Prim.Native.Nat.{ℕ, zero, suc, _+_, _-_}
+use lib.ListN.{length}
+use lib.Dec.{eqb}
+use lib.IntN.{ℤ}
+use Rattle.guide.specs.Choice.{choose}
+use Rattle.guide.specs.Limits.{limitsOf, beyondControl}
+
+-- the words without those that pass the test, "in their old order"
+unfoldable pub without : (ℤ → Bool) → List ℤ → List ℤ
+without test [] = []
+without test (w ∷ ws) = choose (test w) (without test ws) (w ∷ without test ws)
+
+-- "In each round all words beyond the control limits are removed together and the limits worked out anew from the rest"
+unfoldable pub round : ℕ → List ℤ → List ℤ
+round kind words = without (beyondControl (limitsOf kind words)) words
+
+-- what rejection leaves, the rounds that it takes, and the number of words that the rounds remove
+pub record Rejected : Type 0 where
+  pub base : List ℤ
+  pub rounds : ℕ
+  pub removed : ℕ
+
+-- "The first round that removes nothing is the last and is counted."
+abbrev pub lastRound : List ℤ → Rejected
+lastRound words = record { base = words; rounds = 1; removed = 0 }
+
+-- a round that removes some words, before the rounds that r tells of
+abbrev pub oneMoreRound : ℕ → Rejected → Rejected
+oneMoreRound some r = record { base = r .base; rounds = r .rounds + 1; removed = r .removed + some }
+
+-- rejection "calls itself on the words left, whose number falls": so as many rounds as there are words, and one more, are enough.
+-- `proofs/Rejection` has the two equations that a reader expects, `rejection-ends` and `rejection-goes-on`; nothing else looks at the
+-- number of rounds allowed for
+unfoldable pub rejectionWithin : ℕ → ℕ → List ℤ → Rejected
+rejectionWithin zero kind words = lastRound words
+rejectionWithin (suc rounds) kind words =
+    elim (eqb (length (round kind words)) (length words)) [
+      | true ↦ lastRound words
+      | false ↦ oneMoreRound (length words - length (round kind words)) (rejectionWithin rounds kind (round kind words))
+    ]
+
+unfoldable pub rejection : ℕ → List ℤ → Rejected
+rejection kind words = rejectionWithin (suc (length words)) kind words

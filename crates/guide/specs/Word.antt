@@ -1,0 +1,57 @@
+-- Document 01, "From readings to words": the word that a kind and three numbers give, or the number of the refusal.
+use mathlib.Core.Bool.{Bool, _&&_, _||_, not}
+use Prim.Native.Nat.{ℕ, suc, _+_, _*_, _/_}
+use lib.Dec.{eqb}
+use lib.IntN.{ℤ, pos, negsuc, natAbs, negℤ, _+ℤ_, _-ℤ_, _*ℤ_}
+use lib.Signed.{leZ}
+use Rattle.guide.specs.Choice.{require}
+use Rattle.guide.specs.Kind.{isKind, byKind, ignoresThird, inRange}
+
+-- "Readings are whole numbers from 0 to 1,000,000,000"
+unfoldable pub isReading : ℤ → Bool
+isReading x = leZ (pos 0) x && leZ x (pos 1000000000)
+
+-- every number that the kind takes is a reading
+unfoldable pub areReadings : ℕ → ℤ → ℤ → ℤ → Bool
+areReadings kind a b c = isReading a && (isReading b && (ignoresThird kind || isReading c))
+
+-- the word is a quotient: kind 1 "20000 × |X1 − X2| / (X1 + X2)", kind 2 "10000 × X / A", kind 3 "10000 × (SSR − SR) / SA"
+unfoldable pub numerator : ℕ → ℤ → ℤ → ℤ → ℤ
+numerator kind a b c =
+    byKind kind
+    (pos 20000 *ℤ pos (natAbs (a -ℤ b)))
+    (pos 10000 *ℤ a)
+    (pos 10000 *ℤ (a -ℤ b))
+
+unfoldable pub divisor : ℕ → ℤ → ℤ → ℤ → ℤ
+divisor kind a b c = byKind kind (a +ℤ b) b c
+
+-- "The quotient goes to the nearest whole number, halves away from zero": n / d of a natural number n, and of an integer, whose
+-- sign the result has. `proofs/Word` shows that it is nearest, and which way a half goes
+unfoldable pub nearestNatural : ℕ → ℕ → ℕ
+nearestNatural n d = (2 * n + d) / (2 * d)
+
+unfoldable pub nearest : ℤ → ℕ → ℤ
+nearest (pos n) d = pos (nearestNatural n d)
+nearest (negsuc n) d = negℤ (pos (nearestNatural (suc n) d))
+
+-- the quotient so rounded
+unfoldable pub quotient : ℕ → ℤ → ℤ → ℤ → ℤ
+quotient kind a b c = nearest (numerator kind a b c) (natAbs (divisor kind a b c))
+
+-- a word, or the number for what is declined
+pub data Formed : Type 0 where
+  formed : ℤ → Formed
+  refused : ℕ → Formed
+
+-- a word formed from a reading of a chart's kind: 5 "a reading outside 0..1,000,000,000", 6 "divisor 0", 7 "word out of range"
+unfoldable pub fromReading : ℕ → ℤ → ℤ → ℤ → Formed
+fromReading kind a b c =
+    require (areReadings kind a b c) (refused 5)
+    (require (not (eqb (natAbs (divisor kind a b c)) 0)) (refused 6)
+    (require (inRange kind (quotient kind a b c)) (refused 7)
+    (formed (quotient kind a b c))))
+
+-- "A word can also be formed alone": 1 "kind not 1..3" comes before 5, 6, 7
+unfoldable pub wordAlone : ℕ → ℤ → ℤ → ℤ → Formed
+wordAlone kind a b c = require (isKind kind) (refused 1) (fromReading kind a b c)

@@ -1,0 +1,26 @@
+-- What the types of `words` say in the paper's terms.
+use mathlib.Core.Path.{_≡_}
+use mathlib.Core.Bool.{Bool, true, false}
+use Prim.Native.Nat.{ℕ, _≤_}
+use lib.IntN.{ℤ, pos, natAbs, negℤ}
+use Rattle.guide.specs.Word as guide
+use Rattle.words.specs.declared.Formed.{Formed}
+use Rattle.words.specs.declared.Formed.the-variants.{Word, Refused}
+use Rattle.words.specs.declared.Quotient.{Quotient}
+
+-- the word, or the refusal's number
+unfoldable pub formedSays : Formed → guide.Formed
+formedSays (Word w) = guide.formed w
+formedSays (Refused n) = guide.refused n
+
+-- an integer by its sign and magnitude
+abbrev pub signed : Bool → ℕ → ℤ
+signed true n = negℤ (pos n)
+signed false n = pos n
+
+-- q is the quotient of the paper, before it is rounded, and its numbers are small enough to be doubled and added
+pub record IsQuotient (kind : ℕ) (a b c : ℤ) (q : Quotient) : Type 0 where
+  pub above : signed (q .negative) (q .numerator) ≡ guide.numerator kind a b c
+  pub under : q .divisor ≡ natAbs (guide.divisor kind a b c)
+  pub small : q .numerator ≤ 20000000000000
+  pub few : q .divisor ≤ 2000000000

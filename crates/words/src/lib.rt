@@ -1,0 +1,148 @@
+// A word formed from a reading: document 01, "From readings to words".
+//
+// `word` forms a word alone. It declines, and this is the order: 1 a kind that is not 1..3, 5 a reading outside
+// 0..1,000,000,000, 6 a divisor of 0, 7 a word out of range. `from_reading` is the part that every reading goes through, with 5, 6 and
+// 7; `in_range` is the range of a kind's words.
+ghost use mathlib.Core.Path.{_≡_};
+ghost use mathlib.Core.Bool.{Bool, true, false};
+ghost use Prim.Native.Nat.{ℕ, _+_, _-_, _*_, _≤_, _<_};
+ghost use lib.IntN.{ℤ, pos};
+ghost use Rattle.guide.specs.Kind.{isKind, inRange};
+ghost use Rattle.guide.specs.Word.{isReading, areReadings, nearest, fromReading, wordAlone};
+ghost use Rattle.words.specs.Formed.{formedSays, signed, IsQuotient};
+
+pub enum Formed {
+    Word(i16),
+    Refused(u16),
+}
+
+// A quotient that is yet to be rounded, by the sign and the magnitude of its numerator.
+struct Quotient {
+    negative: bool,
+    numerator: u64,
+    divisor: u64,
+}
+
+pub fn word(kind: u16, a: i64, b: i64, c: i64) -> Formed
+    ensures { λ r. ⌜ formedSays r ≡ wordAlone kind a b c ⌝ }
+{
+    if kind < 1 {
+        return Formed::Refused(1);
+    }
+    if 3 < kind {
+        return Formed::Refused(1);
+    }
+    from_reading(kind, a, b, c)
+}
+
+pub fn from_reading(kind: u16, a: i64, b: i64, c: i64) -> Formed
+    ensures { λ r. ⌜ formedSays r ≡ fromReading kind a b c ⌝ }
+{
+    if !are_readings(kind, a, b, c) {
+        return Formed::Refused(5);
+    }
+    let q = quotient_of(kind, a, b, c);
+    if q.divisor == 0 {
+        return Formed::Refused(6);
+    }
+    let w = nearest_to(q);
+    if !in_range(kind, w) {
+        return Formed::Refused(7);
+    }
+    Formed::Word(w as i16)
+}
+
+// The range is that of the kind's words: 0..20000 for kind 1, −20000..20000 for the others.
+pub fn in_range(kind: u16, w: i64) -> bool
+    ensures { λ r. ⌜ r ≡ inRange kind w ⌝ }
+{
+    if 20000 < w {
+        return false;
+    }
+    if kind == 1 {
+        return 0 <= w;
+    }
+    -20000 <= w
+}
+
+fn is_reading(x: i64) -> bool
+    ensures { λ r. ⌜ r ≡ isReading x ⌝ }
+{
+    if x < 0 {
+        return false;
+    }
+    x <= 1000000000
+}
+
+// Kinds 1 and 2 ignore the third number, whatever it is.
+fn are_readings(kind: u16, a: i64, b: i64, c: i64) -> bool
+    ensures { λ r. ⌜ r ≡ areReadings kind a b c ⌝ }
+{
+    if !is_reading(a) {
+        return false;
+    }
+    if !is_reading(b) {
+        return false;
+    }
+    if kind == 1 {
+        return true;
+    }
+    if kind == 2 {
+        return true;
+    }
+    is_reading(c)
+}
+
+// A reading is not negative.
+fn reading(x: i64) -> u64
+    requires { ⌜ isReading x ≡ true ⌝ }
+    ensures { λ r. ⌜ (pos r ≡ x) × (r ≤ 1000000000) ⌝ }
+{
+    x as u64
+}
+
+fn quotient_of(kind: u16, a: i64, b: i64, c: i64) -> Quotient
+    requires { ⌜ areReadings kind a b c ≡ true ⌝ }
+    ensures { λ r. ⌜ IsQuotient kind a b c r ⌝ }
+{
+    let x = reading(a);
+    let y = reading(b);
+    if kind == 1 {
+        return Quotient {
+            negative: false,
+            numerator: 20000 * distance_of(x, y),
+            divisor: x + y,
+        };
+    }
+    if kind == 2 {
+        return Quotient {
+            negative: false,
+            numerator: 10000 * x,
+            divisor: y,
+        };
+    }
+    Quotient {
+        negative: x < y,
+        numerator: 10000 * distance_of(x, y),
+        divisor: reading(c),
+    }
+}
+
+fn distance_of(x: u64, y: u64) -> u64
+    ensures { λ r. ⌜ r ≡ (x - y) + (y - x) ⌝ }
+{
+    if x < y { y - x } else { x - y }
+}
+
+// The nearest whole number, halves away from zero.
+fn nearest_to(q: Quotient) -> i64
+    requires { ⌜ (0 < q .divisor) × (q .divisor ≤ 2000000000) × (q .numerator ≤ 20000000000000) ⌝ }
+    ensures { λ r. ⌜ r ≡ nearest (signed (q .negative) (q .numerator)) (q .divisor) ⌝ }
+{
+    let d = q.divisor;
+    let w = ((2 * q.numerator + d) / (2 * d)) as i64;
+    if q.negative {
+        return 0 - w;
+    }
+    w
+}
