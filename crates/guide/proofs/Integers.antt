@@ -142,11 +142,14 @@ square-magnitude (negsuc n) = refl
 pub magnitude : {z : ℤ} {a b : ℕ} → Diff z a b → natAbs z ≡ distance a b
 magnitude {a = a} {b = b} p = ap natAbs (p .is) ∙ sub-magnitude a b
 
+pub square-of : {z : ℤ} {a b : ℕ} → Diff z a b → natAbs z * natAbs z + 2 * (a * b) ≡ a * a + b * b
+square-of {z} {a} {b} p = rw (magnitude p) (distance-square a b)
+
 pub squared : {z : ℤ} {a b : ℕ} → Diff z a b → Diff (z *ℤ z) (a * a + b * b) (2 * (a * b))
 squared {z} {a} {b} p =
     let m = natAbs z * natAbs z in
     let q : Diff (z *ℤ z) m 0 = record { is = square-magnitude z ∙ of-pos {n = m} .is } in
-    recast (a * a + b * b) (2 * (a * b)) q (omega (arith, distance-square a b, ap (λ (x : ℕ). x * x) (magnitude p)))
+    recast (a * a + b * b) (2 * (a * b)) q (omega (arith, square-of p))
 
 -- ---- what a difference says
 

@@ -1,3 +1,7 @@
 -- The laws about the paper's definitions.
 pub mod Integers
+pub mod Booleans
+pub mod Word
+pub mod Limits
+pub mod Rejection
 pub mod Figures

@@ -1,5 +1,5 @@
 -- Document 01, "Base, limits, rejection": rounds of rejection, what they leave, and how many rounds and words they take.
-use mathlib.Core.Bool.{Bool, true, false}
+use mathlib.Core.Bool.{Bool, true, false, _&&_, not}
 use mathlib.Core.List.{List, [], _∷_}
 use Prim.Native.Nat.{ℕ, zero, suc, _+_, _-_}
 use lib.ListN.{length}
@@ -37,10 +37,22 @@ oneMoreRound some r = record { base = r .base; rounds = r .rounds + 1; removed =
 unfoldable pub rejectionWithin : ℕ → ℕ → List ℤ → Rejected
 rejectionWithin zero kind words = lastRound words
 rejectionWithin (suc rounds) kind words =
-    elim (eqb (length (round kind words)) (length words)) [
-      | true ↦ lastRound words
-      | false ↦ oneMoreRound (length words - length (round kind words)) (rejectionWithin rounds kind (round kind words))
-    ]
+    choose (eqb (length (round kind words)) (length words))
+    (lastRound words)
+    (oneMoreRound (length words - length (round kind words)) (rejectionWithin rounds kind (round kind words)))
 
 unfoldable pub rejection : ℕ → List ℤ → Rejected
 rejection kind words = rejectionWithin (suc (length words)) kind words
+
+-- ---- what the laws of rejection say
+
+-- no word passes the test
+unfoldable pub noneOf : (ℤ → Bool) → List ℤ → Bool
+noneOf test [] = true
+noneOf test (w ∷ ws) = not (test w) && noneOf test ws
+
+-- some of the words, in their old order
+pub data InOrder : List ℤ → List ℤ → Type 0 where
+  none : InOrder [] []
+  kept : {w : ℤ} {some words : List ℤ} → InOrder some words → InOrder (w ∷ some) (w ∷ words)
+  removed : {w : ℤ} {some words : List ℤ} → InOrder some words → InOrder some (w ∷ words)

@@ -1,0 +1,166 @@
+-- Laws of sums and limits, over any list of integers and any multiple m of S.
+-- `squared-deviations`: n·V is the sum of the squared deviations, so V is never negative (`v-natural`).
+-- `exceeds-natural`: the comparison with a limit, in natural numbers. `few-beyond`: how many words can lie beyond m·S.
+use mathlib.Core.Path.{_≡_, refl, sym, ap, _∙_}
+use mathlib.Core.Bool.{Bool, true, false, _&&_, _||_}
+use mathlib.Core.List.{List, [], _∷_}
+use Prim.Native.Nat.{ℕ, zero, suc, _+_, _*_, _-_, _<_, _≤_}
+use native.Mathlib.Omega.{arith}
+use native.Mathlib.Nat.{mul-le-mul-left}
+use lib.ListN.{length}
+use lib.Dec.{ltb}
+use lib.Signed.{ltZ}
+use lib.IntN.{ℤ, pos, negsuc, natAbs, negℤ, _+ℤ_, _-ℤ_, _*ℤ_}
+use borrow.Author.Tests.{ltb-true}
+use Rattle.guide.specs.Choice.{choose}
+use Rattle.guide.specs.Kind.{hasLower}
+use Rattle.guide.specs.Limits.{Sums, sumOf, squaresOf, sumsOf, vOf, deviation, exceeds, above, below, Limits, beyondUpper, beyondLower, beyond}
+use Rattle.guide.specs.Rejection.{without}
+use Rattle.guide.proofs.Booleans.{both, either}
+use Rattle.guide.proofs.Integers.{sub-cases, Diff, of-pos, of-neg, of-any, up, down, recast, plus, minus, times, square-of, squared, square-magnitude, is-pos, agree}
+
+-- the sum of f over some words
+unfoldable pub sumBy : (ℤ → ℕ) → List ℤ → ℕ
+sumBy f [] = 0
+sumBy f (w ∷ ws) = f w + sumBy f ws
+
+-- the square of an integer
+abbrev pub squareOf : ℤ → ℕ
+squareOf z = natAbs z * natAbs z
+
+-- the sum of the squared deviations n·w − T
+abbrev pub deviationSquares : Sums → List ℤ → ℕ
+deviationSquares s ws = sumBy (λ w. squareOf (deviation s w)) ws
+
+-- ---- T and Q in natural numbers
+
+pub sum-is : (ws : List ℤ) → Diff (sumOf ws) (sumBy up ws) (sumBy down ws)
+unfolding sumOf sumBy
+sum-is [] = of-pos
+sum-is (w ∷ ws) = plus (of-any w) (sum-is ws)
+
+pub squares-are : (ws : List ℤ) → squaresOf ws ≡ pos (sumBy squareOf ws)
+unfolding squaresOf sumBy
+squares-are [] = refl
+squares-are (w ∷ ws) = rw (square-magnitude w, squares-are ws)
+
+-- ---- n·V is the sum of the squared deviations
+
+-- (k·w − (c − d))², for any k, c and d: its parts that are added and those that are taken away
+module _ (k c d : ℕ) where
+  more : ℤ → ℕ
+  more w = k * k * squareOf w + 2 * k * (up w * d + down w * c) + (c * c + d * d)
+
+  less : ℤ → ℕ
+  less w = 2 * k * (up w * c + down w * d) + 2 * (c * d)
+
+  square-around : (w s : ℤ) → Diff s c d → squareOf (pos k *ℤ w -ℤ s) + less w ≡ more w
+  unfolding more less
+  square-around w s p = omega (arith, square-of (minus (times k (of-any w)) p), ap (λ (x : ℕ). k * k * x) (square-of (of-any w)))
+
+  squares-around : (s : ℤ) → Diff s c d → (ws : List ℤ) → sumBy (λ w. squareOf (pos k *ℤ w -ℤ s)) ws + sumBy less ws ≡ sumBy more ws
+  unfolding sumBy
+  squares-around s p [] = omega arith
+  squares-around s p (w ∷ ws) = omega (arith, square-around w s p, squares-around s p ws)
+
+  sum-more : (ws : List ℤ)
+      → sumBy more ws ≡ k * k * sumBy squareOf ws + 2 * k * (sumBy up ws * d + sumBy down ws * c) + length ws * (c * c + d * d)
+  unfolding sumBy more
+  sum-more [] = omega arith
+  sum-more (w ∷ ws) = omega (arith, sum-more ws)
+
+  sum-less : (ws : List ℤ) → sumBy less ws ≡ 2 * k * (sumBy up ws * c + sumBy down ws * d) + length ws * (2 * (c * d))
+  unfolding sumBy less
+  sum-less [] = omega arith
+  sum-less (w ∷ ws) = omega (arith, sum-less ws)
+
+v-is : (ws : List ℤ)
+    → Diff (vOf (sumsOf ws)) (length ws * sumBy squareOf ws + 2 * (sumBy up ws * sumBy down ws)) (sumBy up ws * sumBy up ws + sumBy down ws * sumBy down ws)
+unfolding vOf sumsOf
+v-is ws =
+    let q : Diff (squaresOf ws) (sumBy squareOf ws) 0 = record { is = squares-are ws ∙ of-pos {n = sumBy squareOf ws} .is } in
+    recast _ _ (minus (times (length ws) q) (squared (sum-is ws))) (omega arith)
+
+pub squared-deviations : (ws : List ℤ) → pos (length ws) *ℤ vOf (sumsOf ws) ≡ pos (deviationSquares (sumsOf ws) ws)
+unfolding deviation sumsOf
+squared-deviations ws =
+    let n = length ws in
+    let c = sumBy up ws in
+    let d = sumBy down ws in
+    is-pos (sumBy (λ w. squareOf (pos n *ℤ w -ℤ sumOf ws)) ws) (times n (v-is ws))
+    (omega (arith, squares-around n c d (sumOf ws) (sum-is ws) ws, sum-more n c d ws, sum-less n c d ws))
+
+-- ---- V is never negative
+
+not-negative : (n k : ℕ) (z : ℤ) → pos (suc n) *ℤ z ≡ pos k → z ≡ pos (natAbs z)
+not-negative n k (pos j) e = refl
+not-negative n k (negsuc j) e = absurd (omega (arith, agree (times (suc n) (of-neg {n = j})) (of-pos {n = k}) e))
+
+pub v-natural : (ws : List ℤ) → vOf (sumsOf ws) ≡ pos (natAbs (vOf (sumsOf ws)))
+unfolding vOf sumsOf sumOf squaresOf
+v-natural [] = refl
+v-natural (w ∷ ws) = not-negative (length ws) (deviationSquares (sumsOf (w ∷ ws)) (w ∷ ws)) (vOf (sumsOf (w ∷ ws))) (squared-deviations (w ∷ ws))
+
+-- n·V in natural numbers
+pub n-times-v : (ws : List ℤ) → length ws * natAbs (vOf (sumsOf ws)) ≡ deviationSquares (sumsOf ws) ws
+n-times-v ws = ap natAbs (ap (λ (z : ℤ). pos (length ws) *ℤ z) (sym (v-natural ws)) ∙ squared-deviations ws)
+
+-- ---- the comparison with a limit
+
+-- in natural numbers, where V is not negative
+pub exceeds-natural : (m : ℕ) (s : Sums) (v : ℕ) (d : ℤ) → vOf s ≡ pos v → exceeds m s d ≡ ltb (m * m * s .n * v) (squareOf d * (s .n - 1))
+unfolding exceeds
+exceeds-natural m s v d e = rw (e, square-magnitude d)
+
+-- and of some words' own sums
+exceeds-squares : (m : ℕ) (ws : List ℤ) (d : ℤ)
+    → exceeds m (sumsOf ws) d ≡ ltb (m * m * deviationSquares (sumsOf ws) ws) (squareOf d * (length ws - 1))
+unfolding sumsOf
+exceeds-squares m ws d =
+    let v = natAbs (vOf (sumsOf ws)) in
+    let e : m * m * length ws * v ≡ m * m * deviationSquares (sumsOf ws) ws = omega (arith, ap (λ (x : ℕ). m * m * x) (n-times-v ws)) in
+    exceeds-natural m (sumsOf ws) v d (v-natural ws) ∙ ap (λ (x : ℕ). ltb x (squareOf d * (length ws - 1))) e
+
+-- a word beyond a limit deviates by more than m·S, on whichever side
+pub beyond-exceeds : (m : ℕ) (limits : Limits) (w : ℤ) → beyond m limits w ≡ true → exceeds m (limits .sums) (deviation (limits .sums) w) ≡ true
+unfolding beyond beyondUpper beyondLower above below
+beyond-exceeds m limits w t =
+    let s = limits .sums in
+    either (beyondUpper m limits w) (beyondLower m limits w) t
+    (λ u. both (ltZ (pos 0) (deviation s w)) (exceeds m s (deviation s w)) u .1)
+    (λ l. both (ltZ (deviation s w) (pos 0)) (exceeds m s (deviation s w)) (both (hasLower (limits .kind)) (below m s w) l .1) .1)
+
+-- ---- how many words lie beyond m·S
+
+-- where c·f is at least b for each word that a test removes, the words removed, b times each, are within c times the sum of f
+choose-count : (t : Bool) (w : ℤ) (r : List ℤ) (n b s x : ℕ) → n * b ≤ length r * b + s → (t ≡ true → b ≤ x)
+    → suc n * b ≤ length (choose t r (w ∷ r)) * b + (x + s)
+choose-count true w r n b s x h k = omega (arith, k refl)
+choose-count false w r n b s x h k = omega arith
+
+removed-count : (test : ℤ → Bool) (f : ℤ → ℕ) (b c : ℕ) → ((w : ℤ) → test w ≡ true → b ≤ f w * c)
+    → (ws : List ℤ) → length ws * b ≤ length (without test ws) * b + sumBy f ws * c
+unfolding without sumBy
+removed-count test f b c h [] = omega arith
+removed-count test f b c h (w ∷ ws) =
+    omega (arith, choose-count (test w) w (without test ws) (length ws) b (sumBy f ws * c) (f w * c) (removed-count test f b c h ws) (h w))
+
+-- j words removed of n, each with a squared deviation above m²·x / (n − 1), where x is the sum of all n: m²·j < n − 1, or j is 0
+few : (m j c x : ℕ) → suc j * (m * m * x + 1) ≤ x * c → m * m * suc j < c
+few m j c x h =
+    sub-cases (m * m * suc j) c (λ z. m * m * suc j < c)
+    (λ k p. let q : c ≤ m * m * suc j = omega arith in absurd (omega (arith, mul-le-mul-left x q)))
+    (λ k p. omega arith)
+
+-- of n words, a test that only words beyond m·S pass removes so few that m² times their number is below n − 1, or none
+pub few-beyond : (m : ℕ) (ws : List ℤ) (test : ℤ → Bool)
+    → ((w : ℤ) → test w ≡ true → exceeds m (sumsOf ws) (deviation (sumsOf ws) w) ≡ true)
+    → (j : ℕ) → length ws ≡ length (without test ws) + suc j → m * m * suc j < length ws - 1
+few-beyond m ws test h j e =
+    let s = sumsOf ws in
+    let x = deviationSquares s ws in
+    let c = length ws - 1 in
+    let b = m * m * x + 1 in
+    let far : (w : ℤ) → test w ≡ true → m * m * x < squareOf (deviation s w) * c = λ w t.
+    ltb-true (m * m * x) (squareOf (deviation s w) * c) (sym (exceeds-squares m ws (deviation s w)) ∙ h w t) in
+    few m j c x (omega (arith, removed-count test (λ w. squareOf (deviation s w)) b c (λ w t. omega (arith, far w t)) ws, ap (λ (n : ℕ). n * b) e))

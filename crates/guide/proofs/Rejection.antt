@@ -1,0 +1,174 @@
+-- Laws of rejection. `rejection-ends` and `rejection-goes-on` are its two equations, and `rejection-ind` the induction that they give; the
+-- rest follows by it: rounds and removals are counted as the paper counts, the words left are in their old order, none is
+-- beyond the limits of the words left, and of ten words or more at least ten are left.
+use mathlib.Core.Path.{_≡_, refl, sym, ap, subst, _∙_}
+use mathlib.Core.Bool.{Bool, true, false, _&&_, not}
+use mathlib.Core.List.{List, [], _∷_}
+use Prim.Native.Nat.{ℕ, zero, suc, _+_, _*_, _-_, _<_, _≤_}
+use native.Mathlib.Omega.{arith}
+use lib.ListN.{length}
+use lib.Dec.{eqb}
+use lib.IntN.{ℤ}
+use borrow.Author.Tests.{eqb-true, eqb-false, eq-eqb, ne-eqb}
+use Rattle.guide.specs.Choice.{choose}
+use Rattle.guide.specs.Sizes.{baseLeast}
+use Rattle.guide.specs.Limits.{limitsOf, sumsOf, beyondControl}
+use Rattle.guide.specs.Rejection.{without, round, Rejected, lastRound, oneMoreRound, rejectionWithin, rejection, noneOf, InOrder, none, kept, removed}
+use Rattle.guide.proofs.Booleans.{by-test}
+use Rattle.guide.proofs.Limits.{beyond-exceeds, few-beyond}
+
+-- ---- the words without those that pass a test
+
+choose-shorter : (t : Bool) (w : ℤ) (r : List ℤ) (n : ℕ) → length r ≤ n → length (choose t r (w ∷ r)) ≤ suc n
+choose-shorter true w r n h = omega arith
+choose-shorter false w r n h = omega arith
+
+pub without-shorter : (test : ℤ → Bool) (ws : List ℤ) → length (without test ws) ≤ length ws
+unfolding without
+without-shorter test [] = omega arith
+without-shorter test (w ∷ ws) = choose-shorter (test w) w (without test ws) (length ws) (without-shorter test ws)
+
+-- a test that removes nothing leaves the words as they are, and none of them passes it
+record Whole (test : ℤ → Bool) (ws : List ℤ) : Type 0 where
+  same : without test ws ≡ ws
+  untouched : noneOf test ws ≡ true
+
+choose-whole : (test : ℤ → Bool) (t : Bool) (w : ℤ) (ws : List ℤ) → t ≡ test w
+    → length (without test ws) ≤ length ws → (length (without test ws) ≡ length ws → Whole test ws)
+    → length (choose t (without test ws) (w ∷ without test ws)) ≡ suc (length ws)
+    → (choose t (without test ws) (w ∷ without test ws) ≡ w ∷ ws) × ((not t && noneOf test ws) ≡ true)
+choose-whole test true w ws p h k e = absurd (omega arith)
+choose-whole test false w ws p h k e = let r = k (omega arith) in (ap (λ (x : List ℤ). w ∷ x) (r .same), r .untouched)
+
+without-whole : (test : ℤ → Bool) (ws : List ℤ) → length (without test ws) ≡ length ws → Whole test ws
+unfolding without noneOf
+without-whole test [] e = record { same = refl; untouched = refl }
+without-whole test (w ∷ ws) e =
+    let r = choose-whole test (test w) w ws refl (without-shorter test ws) (without-whole test ws) e in
+    record { same = r .0; untouched = r .1 }
+
+choose-in-order : (t : Bool) (w : ℤ) (r ws : List ℤ) → InOrder r ws → InOrder (choose t r (w ∷ r)) (w ∷ ws)
+choose-in-order true w r ws h = removed h
+choose-in-order false w r ws h = kept h
+
+without-in-order : (test : ℤ → Bool) (ws : List ℤ) → InOrder (without test ws) ws
+unfolding without
+without-in-order test [] = none
+without-in-order test (w ∷ ws) = choose-in-order (test w) w (without test ws) ws (without-in-order test ws)
+
+-- ---- the old order
+
+in-order-same : (ws : List ℤ) → InOrder ws ws
+in-order-same [] = none
+in-order-same (w ∷ ws) = kept (in-order-same ws)
+
+in-order-chain : {a b c : List ℤ} → InOrder a b → InOrder b c → InOrder a c
+in-order-chain p none = p
+in-order-chain (kept p) (kept q) = kept (in-order-chain p q)
+in-order-chain (removed p) (kept q) = removed (in-order-chain p q)
+in-order-chain p (removed q) = removed (in-order-chain p q)
+
+-- ---- one round
+
+pub round-shorter : (kind : ℕ) (ws : List ℤ) → length (round kind ws) ≤ length ws
+unfolding round
+round-shorter kind ws = without-shorter (beyondControl (limitsOf kind ws)) ws
+
+pub round-in-order : (kind : ℕ) (ws : List ℤ) → InOrder (round kind ws) ws
+unfolding round
+round-in-order kind ws = without-in-order (beyondControl (limitsOf kind ws)) ws
+
+-- a round that removes nothing leaves the words, none of which is beyond their own limits
+pub round-whole : (kind : ℕ) (ws : List ℤ) → length (round kind ws) ≡ length ws
+    → (round kind ws ≡ ws) × (noneOf (beyondControl (limitsOf kind ws)) ws ≡ true)
+unfolding round
+round-whole kind ws e = let r = without-whole (beyondControl (limitsOf kind ws)) ws e in (r .same, r .untouched)
+
+-- 9·j < n − 1 for j words removed of n, by the law for any multiple: so of ten or more ten are left
+ten-left : (n left j : ℕ) → 10 ≤ n → n ≡ left + j → ((i : ℕ) → j ≡ suc i → 3 * 3 * suc i < n - 1) → 10 ≤ left
+ten-left n left zero h e f = omega arith
+ten-left n left (suc i) h e f = omega (arith, f i refl)
+
+pub round-ten : (kind : ℕ) (ws : List ℤ) → baseLeast ≤ length ws → baseLeast ≤ length (round kind ws)
+unfolding round limitsOf beyondControl
+round-ten kind ws h =
+    let test = beyondControl (limitsOf kind ws) in
+    let left = length (without test ws) in
+    let short = without-shorter test ws in
+    ten-left (length ws) left (length ws - left) h (omega arith)
+    (λ i e. few-beyond 3 ws test (λ w t. beyond-exceeds 3 (limitsOf kind ws) w t) i (omega arith))
+
+-- ---- rejection
+
+-- enough rounds are allowed for, and more make no difference
+enough : (i j kind : ℕ) (ws : List ℤ) → length ws < i → length ws < j → rejectionWithin i kind ws ≡ rejectionWithin j kind ws
+unfolding rejectionWithin
+enough zero j kind ws h k = absurd (omega arith)
+enough (suc i) zero kind ws h k = absurd (omega arith)
+enough (suc i) (suc j) kind ws h k =
+    let r = round kind ws in
+    by-test (eqb (length r) (length ws))
+    (λ t. rw t)
+    (λ t.
+    let s : length r < length ws = omega (arith, round-shorter kind ws, eqb-false (length r) (length ws) t) in
+    ap (λ (x : Rejected). choose (eqb (length r) (length ws)) (lastRound ws) (oneMoreRound (length ws - length r) x))
+    (enough i j kind r (omega arith) (omega arith)))
+
+pub rejection-ends : (kind : ℕ) (ws : List ℤ) → length (round kind ws) ≡ length ws → rejection kind ws ≡ lastRound ws
+unfolding rejection rejectionWithin
+rejection-ends kind ws e = rw (eq-eqb (length (round kind ws)) (length ws) e)
+
+pub rejection-goes-on : (kind : ℕ) (ws : List ℤ) → length (round kind ws) < length ws
+    → rejection kind ws ≡ oneMoreRound (length ws - length (round kind ws)) (rejection kind (round kind ws))
+unfolding rejection rejectionWithin
+rejection-goes-on kind ws h =
+    let r = round kind ws in
+    rw (ne-eqb (length r) (length ws) (λ e. omega arith))
+    (ap (oneMoreRound (length ws - length r)) (enough (length ws) (suc (length r)) kind r (omega arith) (omega arith)))
+
+-- what holds of the last round, and of a round more where it holds of the rounds after it, holds of rejection
+module _ (kind : ℕ) (P : List ℤ → Rejected → Type 0)
+    (last : (ws : List ℤ) → length (round kind ws) ≡ length ws → P ws (lastRound ws))
+    (more : (ws : List ℤ) (r : Rejected) → length (round kind ws) < length ws → P (round kind ws) r
+    → P ws (oneMoreRound (length ws - length (round kind ws)) r)) where
+  ind-below : (n : ℕ) (ws : List ℤ) → length ws < n → P ws (rejection kind ws)
+  ind-below zero ws h = absurd (omega arith)
+  ind-below (suc n) ws h =
+      by-test (eqb (length (round kind ws)) (length ws))
+      (λ t. let e = eqb-true (length (round kind ws)) (length ws) t in rw (rejection-ends kind ws e) (last ws e))
+      (λ t.
+      let s : length (round kind ws) < length ws = omega (arith, round-shorter kind ws, eqb-false (length (round kind ws)) (length ws) t) in
+      rw (rejection-goes-on kind ws s) (more ws (rejection kind (round kind ws)) s (ind-below n (round kind ws) (omega arith))))
+
+  pub rejection-ind : (ws : List ℤ) → P ws (rejection kind ws)
+  rejection-ind ws = ind-below (suc (length ws)) ws (omega arith)
+
+-- ---- what rejection gives
+
+-- the words left and the words removed are all the words
+pub rejection-counts : (kind : ℕ) (ws : List ℤ) → rejection kind ws .removed + length (rejection kind ws .base) ≡ length ws
+rejection-counts kind =
+    rejection-ind kind (λ ws r. r .removed + length (r .base) ≡ length ws) (λ ws e. omega arith) (λ ws r s h. omega arith)
+
+-- there is a round, and each but the last removes a word
+pub rejection-rounds : (kind : ℕ) (ws : List ℤ) → (1 ≤ rejection kind ws .rounds) × (rejection kind ws .rounds ≤ suc (rejection kind ws .removed))
+rejection-rounds kind =
+    rejection-ind kind (λ ws r. (1 ≤ r .rounds) × (r .rounds ≤ suc (r .removed))) (λ ws e. omega arith) (λ ws r s h. omega arith)
+
+-- the words left are in their old order
+pub rejection-in-order : (kind : ℕ) (ws : List ℤ) → InOrder (rejection kind ws .base) ws
+rejection-in-order kind =
+    rejection-ind kind (λ ws r. InOrder (r .base) ws) (λ ws e. in-order-same ws)
+    (λ ws r s h. in-order-chain h (round-in-order kind ws))
+
+-- no word left is beyond the control limits of the words left
+pub rejection-settles : (kind : ℕ) (ws : List ℤ) → noneOf (beyondControl (limitsOf kind (rejection kind ws .base))) (rejection kind ws .base) ≡ true
+rejection-settles kind =
+    rejection-ind kind (λ ws r. noneOf (beyondControl (limitsOf kind (r .base))) (r .base) ≡ true) (λ ws e. round-whole kind ws e .1)
+    (λ ws r s h. h)
+
+-- of ten words or more at least ten are left
+pub rejection-ten : (kind : ℕ) (ws : List ℤ) → baseLeast ≤ length ws → baseLeast ≤ length (rejection kind ws .base)
+rejection-ten kind =
+    rejection-ind kind (λ ws r. baseLeast ≤ length ws → baseLeast ≤ length (r .base)) (λ ws e h. h)
+    (λ ws r s f h. f (round-ten kind ws h))
