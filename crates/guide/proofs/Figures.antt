@@ -4,12 +4,14 @@ use mathlib.Core.List.{List, map}
 use lib.IntN.{ℤ}
 use Rattle.guide.specs.Kind.{isKind, ignoresThird, inRange, hasLower}
 use Rattle.guide.specs.Word.{isReading, areReadings, numerator, divisor, nearestNatural, nearest, quotient, fromReading, wordAlone}
-use Rattle.guide.specs.Limits.{sumOf, squaresOf, sumsOf, vOf, deviation, exceeds, above, below, limitsOf, beyondUpper, beyondLower, beyond, beyondControl}
-use Rattle.guide.specs.Rejection.{without, round, rejectionWithin, rejection}
+use Rattle.guide.specs.Limits.{sumOf, sumOfSquares, sumsOf, vOf, scaledDeviation, exceeds, above, below, limitsOf, beyondUpper, beyondLower, beyond, beyondControl, beyondWarning}
+use Rattle.guide.specs.Rejection.{without, afterRound, rejectionWithin, rejection}
+use Rattle.guide.specs.State.{fresh}
+use Rattle.guide.specs.Building.{allInRange, building}
 use Rattle.guide.specs.Figures.{Row, table}
 
-pub figures-hold : map (λ (r : Row). r .given) table ≡ map (λ (r : Row). r .figure) table
+pub figures-hold : map (λ (r : Row). r .defined) table ≡ map (λ (r : Row). r .figure) table
 unfolding table isKind ignoresThird inRange hasLower isReading areReadings numerator divisor nearestNatural nearest quotient fromReading
-    wordAlone sumOf squaresOf sumsOf vOf deviation exceeds above below limitsOf beyondUpper beyondLower beyond beyondControl without round
-    rejectionWithin rejection
+    wordAlone sumOf sumOfSquares sumsOf vOf scaledDeviation exceeds above below limitsOf beyondUpper beyondLower beyond beyondControl
+    beyondWarning without afterRound rejectionWithin rejection fresh allInRange building
 figures-hold = refl

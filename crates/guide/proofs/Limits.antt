@@ -14,7 +14,7 @@ use lib.IntN.{ℤ, pos, negsuc, natAbs, negℤ, _+ℤ_, _-ℤ_, _*ℤ_}
 use borrow.Author.Tests.{ltb-true}
 use Rattle.guide.specs.Choice.{choose}
 use Rattle.guide.specs.Kind.{hasLower}
-use Rattle.guide.specs.Limits.{Sums, sumOf, squaresOf, sumsOf, vOf, deviation, exceeds, above, below, Limits, beyondUpper, beyondLower, beyond}
+use Rattle.guide.specs.Limits.{Sums, sumOf, sumOfSquares, sumsOf, vOf, scaledDeviation, exceeds, above, below, Limits, beyondUpper, beyondLower, beyond}
 use Rattle.guide.specs.Rejection.{without}
 use Rattle.guide.proofs.Booleans.{both, either}
 use Rattle.guide.proofs.Integers.{sub-cases, Diff, of-pos, of-neg, of-any, up, down, recast, plus, minus, times, square-of, squared, square-magnitude, is-pos, agree}
@@ -30,7 +30,7 @@ squareOf z = natAbs z * natAbs z
 
 -- the sum of the squared deviations n·w − T
 abbrev pub deviationSquares : Sums → List ℤ → ℕ
-deviationSquares s ws = sumBy (λ w. squareOf (deviation s w)) ws
+deviationSquares s ws = sumBy (λ w. squareOf (scaledDeviation s w)) ws
 
 -- ---- T and Q in natural numbers
 
@@ -39,8 +39,8 @@ unfolding sumOf sumBy
 sum-is [] = of-pos
 sum-is (w ∷ ws) = plus (of-any w) (sum-is ws)
 
-pub squares-are : (ws : List ℤ) → squaresOf ws ≡ pos (sumBy squareOf ws)
-unfolding squaresOf sumBy
+pub squares-are : (ws : List ℤ) → sumOfSquares ws ≡ pos (sumBy squareOf ws)
+unfolding sumOfSquares sumBy
 squares-are [] = refl
 squares-are (w ∷ ws) = rw (square-magnitude w, squares-are ws)
 
@@ -78,11 +78,11 @@ v-is : (ws : List ℤ)
     → Diff (vOf (sumsOf ws)) (length ws * sumBy squareOf ws + 2 * (sumBy up ws * sumBy down ws)) (sumBy up ws * sumBy up ws + sumBy down ws * sumBy down ws)
 unfolding vOf sumsOf
 v-is ws =
-    let q : Diff (squaresOf ws) (sumBy squareOf ws) 0 = record { is = squares-are ws ∙ of-pos {n = sumBy squareOf ws} .is } in
+    let q : Diff (sumOfSquares ws) (sumBy squareOf ws) 0 = record { is = squares-are ws ∙ of-pos {n = sumBy squareOf ws} .is } in
     recast _ _ (minus (times (length ws) q) (squared (sum-is ws))) (omega arith)
 
 pub squared-deviations : (ws : List ℤ) → pos (length ws) *ℤ vOf (sumsOf ws) ≡ pos (deviationSquares (sumsOf ws) ws)
-unfolding deviation sumsOf
+unfolding scaledDeviation sumsOf
 squared-deviations ws =
     let n = length ws in
     let c = sumBy up ws in
@@ -97,7 +97,7 @@ not-negative n k (pos j) e = refl
 not-negative n k (negsuc j) e = absurd (omega (arith, agree (times (suc n) (of-neg {n = j})) (of-pos {n = k}) e))
 
 pub v-natural : (ws : List ℤ) → vOf (sumsOf ws) ≡ pos (natAbs (vOf (sumsOf ws)))
-unfolding vOf sumsOf sumOf squaresOf
+unfolding vOf sumsOf sumOf sumOfSquares
 v-natural [] = refl
 v-natural (w ∷ ws) = not-negative (length ws) (deviationSquares (sumsOf (w ∷ ws)) (w ∷ ws)) (vOf (sumsOf (w ∷ ws))) (squared-deviations (w ∷ ws))
 
@@ -122,13 +122,13 @@ exceeds-squares m ws d =
     exceeds-natural m (sumsOf ws) v d (v-natural ws) ∙ ap (λ (x : ℕ). ltb x (squareOf d * (length ws - 1))) e
 
 -- a word beyond a limit deviates by more than m·S, on whichever side
-pub beyond-exceeds : (m : ℕ) (limits : Limits) (w : ℤ) → beyond m limits w ≡ true → exceeds m (limits .sums) (deviation (limits .sums) w) ≡ true
+pub beyond-exceeds : (m : ℕ) (limits : Limits) (w : ℤ) → beyond m limits w ≡ true → exceeds m (limits .sums) (scaledDeviation (limits .sums) w) ≡ true
 unfolding beyond beyondUpper beyondLower above below
 beyond-exceeds m limits w t =
     let s = limits .sums in
     either (beyondUpper m limits w) (beyondLower m limits w) t
-    (λ u. both (ltZ (pos 0) (deviation s w)) (exceeds m s (deviation s w)) u .1)
-    (λ l. both (ltZ (deviation s w) (pos 0)) (exceeds m s (deviation s w)) (both (hasLower (limits .kind)) (below m s w) l .1) .1)
+    (λ u. both (ltZ (pos 0) (scaledDeviation s w)) (exceeds m s (scaledDeviation s w)) u .1)
+    (λ l. both (ltZ (scaledDeviation s w) (pos 0)) (exceeds m s (scaledDeviation s w)) (both (hasLower (limits .kind)) (below m s w) l .1) .1)
 
 -- ---- how many words lie beyond m·S
 
@@ -154,13 +154,13 @@ few m j c x h =
 
 -- of n words, a test that only words beyond m·S pass removes so few that m² times their number is below n − 1, or none
 pub few-beyond : (m : ℕ) (ws : List ℤ) (test : ℤ → Bool)
-    → ((w : ℤ) → test w ≡ true → exceeds m (sumsOf ws) (deviation (sumsOf ws) w) ≡ true)
+    → ((w : ℤ) → test w ≡ true → exceeds m (sumsOf ws) (scaledDeviation (sumsOf ws) w) ≡ true)
     → (j : ℕ) → length ws ≡ length (without test ws) + suc j → m * m * suc j < length ws - 1
 few-beyond m ws test h j e =
     let s = sumsOf ws in
     let x = deviationSquares s ws in
     let c = length ws - 1 in
     let b = m * m * x + 1 in
-    let far : (w : ℤ) → test w ≡ true → m * m * x < squareOf (deviation s w) * c = λ w t.
-    ltb-true (m * m * x) (squareOf (deviation s w) * c) (sym (exceeds-squares m ws (deviation s w)) ∙ h w t) in
-    few m j c x (omega (arith, removed-count test (λ w. squareOf (deviation s w)) b c (λ w t. omega (arith, far w t)) ws, ap (λ (n : ℕ). n * b) e))
+    let far : (w : ℤ) → test w ≡ true → m * m * x < squareOf (scaledDeviation s w) * c = λ w t.
+    ltb-true (m * m * x) (squareOf (scaledDeviation s w) * c) (sym (exceeds-squares m ws (scaledDeviation s w)) ∙ h w t) in
+    few m j c x (omega (arith, removed-count test (λ w. squareOf (scaledDeviation s w)) b c (λ w t. omega (arith, far w t)) ws, ap (λ (n : ℕ). n * b) e))

@@ -13,7 +13,7 @@ use borrow.Author.Tests.{eqb-true, eqb-false, eq-eqb, ne-eqb}
 use Rattle.guide.specs.Choice.{choose}
 use Rattle.guide.specs.Sizes.{baseLeast}
 use Rattle.guide.specs.Limits.{limitsOf, sumsOf, beyondControl}
-use Rattle.guide.specs.Rejection.{without, round, Rejected, lastRound, oneMoreRound, rejectionWithin, rejection, noneOf, InOrder, none, kept, removed}
+use Rattle.guide.specs.Rejection.{without, afterRound, RejectionAnswer, lastRound, oneMoreRound, rejectionWithin, rejection, noneOf, InOrder, none, kept, removed}
 use Rattle.guide.proofs.Booleans.{by-test}
 use Rattle.guide.proofs.Limits.{beyond-exceeds, few-beyond}
 
@@ -70,18 +70,18 @@ in-order-chain p (removed q) = removed (in-order-chain p q)
 
 -- ---- one round
 
-pub round-shorter : (kind : ℕ) (ws : List ℤ) → length (round kind ws) ≤ length ws
-unfolding round
+pub round-shorter : (kind : ℕ) (ws : List ℤ) → length (afterRound kind ws) ≤ length ws
+unfolding afterRound
 round-shorter kind ws = without-shorter (beyondControl (limitsOf kind ws)) ws
 
-pub round-in-order : (kind : ℕ) (ws : List ℤ) → InOrder (round kind ws) ws
-unfolding round
+pub round-in-order : (kind : ℕ) (ws : List ℤ) → InOrder (afterRound kind ws) ws
+unfolding afterRound
 round-in-order kind ws = without-in-order (beyondControl (limitsOf kind ws)) ws
 
 -- a round that removes nothing leaves the words, none of which is beyond their own limits
-pub round-whole : (kind : ℕ) (ws : List ℤ) → length (round kind ws) ≡ length ws
-    → (round kind ws ≡ ws) × (noneOf (beyondControl (limitsOf kind ws)) ws ≡ true)
-unfolding round
+pub round-whole : (kind : ℕ) (ws : List ℤ) → length (afterRound kind ws) ≡ length ws
+    → (afterRound kind ws ≡ ws) × (noneOf (beyondControl (limitsOf kind ws)) ws ≡ true)
+unfolding afterRound
 round-whole kind ws e = let r = without-whole (beyondControl (limitsOf kind ws)) ws e in (r .same, r .untouched)
 
 -- 9·j < n − 1 for j words removed of n, by the law for any multiple: so of ten or more ten are left
@@ -89,8 +89,8 @@ ten-left : (n left j : ℕ) → 10 ≤ n → n ≡ left + j → ((i : ℕ) → j
 ten-left n left zero h e f = omega arith
 ten-left n left (suc i) h e f = omega (arith, f i refl)
 
-pub round-ten : (kind : ℕ) (ws : List ℤ) → baseLeast ≤ length ws → baseLeast ≤ length (round kind ws)
-unfolding round limitsOf beyondControl
+pub round-ten : (kind : ℕ) (ws : List ℤ) → baseLeast ≤ length ws → baseLeast ≤ length (afterRound kind ws)
+unfolding afterRound limitsOf beyondControl
 round-ten kind ws h =
     let test = beyondControl (limitsOf kind ws) in
     let left = length (without test ws) in
@@ -106,39 +106,39 @@ unfolding rejectionWithin
 enough zero j kind ws h k = absurd (omega arith)
 enough (suc i) zero kind ws h k = absurd (omega arith)
 enough (suc i) (suc j) kind ws h k =
-    let r = round kind ws in
+    let r = afterRound kind ws in
     by-test (eqb (length r) (length ws))
     (λ t. rw t)
     (λ t.
     let s : length r < length ws = omega (arith, round-shorter kind ws, eqb-false (length r) (length ws) t) in
-    ap (λ (x : Rejected). choose (eqb (length r) (length ws)) (lastRound ws) (oneMoreRound (length ws - length r) x))
+    ap (λ (x : RejectionAnswer). choose (eqb (length r) (length ws)) (lastRound ws) (oneMoreRound (length ws - length r) x))
     (enough i j kind r (omega arith) (omega arith)))
 
-pub rejection-ends : (kind : ℕ) (ws : List ℤ) → length (round kind ws) ≡ length ws → rejection kind ws ≡ lastRound ws
+pub rejection-ends : (kind : ℕ) (ws : List ℤ) → length (afterRound kind ws) ≡ length ws → rejection kind ws ≡ lastRound ws
 unfolding rejection rejectionWithin
-rejection-ends kind ws e = rw (eq-eqb (length (round kind ws)) (length ws) e)
+rejection-ends kind ws e = rw (eq-eqb (length (afterRound kind ws)) (length ws) e)
 
-pub rejection-goes-on : (kind : ℕ) (ws : List ℤ) → length (round kind ws) < length ws
-    → rejection kind ws ≡ oneMoreRound (length ws - length (round kind ws)) (rejection kind (round kind ws))
+pub rejection-goes-on : (kind : ℕ) (ws : List ℤ) → length (afterRound kind ws) < length ws
+    → rejection kind ws ≡ oneMoreRound (length ws - length (afterRound kind ws)) (rejection kind (afterRound kind ws))
 unfolding rejection rejectionWithin
 rejection-goes-on kind ws h =
-    let r = round kind ws in
+    let r = afterRound kind ws in
     rw (ne-eqb (length r) (length ws) (λ e. omega arith))
     (ap (oneMoreRound (length ws - length r)) (enough (length ws) (suc (length r)) kind r (omega arith) (omega arith)))
 
 -- what holds of the last round, and of a round more where it holds of the rounds after it, holds of rejection
-module _ (kind : ℕ) (P : List ℤ → Rejected → Type 0)
-    (last : (ws : List ℤ) → length (round kind ws) ≡ length ws → P ws (lastRound ws))
-    (more : (ws : List ℤ) (r : Rejected) → length (round kind ws) < length ws → P (round kind ws) r
-    → P ws (oneMoreRound (length ws - length (round kind ws)) r)) where
+module _ (kind : ℕ) (P : List ℤ → RejectionAnswer → Type 0)
+    (last : (ws : List ℤ) → length (afterRound kind ws) ≡ length ws → P ws (lastRound ws))
+    (more : (ws : List ℤ) (r : RejectionAnswer) → length (afterRound kind ws) < length ws → P (afterRound kind ws) r
+    → P ws (oneMoreRound (length ws - length (afterRound kind ws)) r)) where
   ind-below : (n : ℕ) (ws : List ℤ) → length ws < n → P ws (rejection kind ws)
   ind-below zero ws h = absurd (omega arith)
   ind-below (suc n) ws h =
-      by-test (eqb (length (round kind ws)) (length ws))
-      (λ t. let e = eqb-true (length (round kind ws)) (length ws) t in rw (rejection-ends kind ws e) (last ws e))
+      by-test (eqb (length (afterRound kind ws)) (length ws))
+      (λ t. let e = eqb-true (length (afterRound kind ws)) (length ws) t in rw (rejection-ends kind ws e) (last ws e))
       (λ t.
-      let s : length (round kind ws) < length ws = omega (arith, round-shorter kind ws, eqb-false (length (round kind ws)) (length ws) t) in
-      rw (rejection-goes-on kind ws s) (more ws (rejection kind (round kind ws)) s (ind-below n (round kind ws) (omega arith))))
+      let s : length (afterRound kind ws) < length ws = omega (arith, round-shorter kind ws, eqb-false (length (afterRound kind ws)) (length ws) t) in
+      rw (rejection-goes-on kind ws s) (more ws (rejection kind (afterRound kind ws)) s (ind-below n (afterRound kind ws) (omega arith))))
 
   pub rejection-ind : (ws : List ℤ) → P ws (rejection kind ws)
   rejection-ind ws = ind-below (suc (length ws)) ws (omega arith)

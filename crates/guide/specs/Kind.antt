@@ -1,6 +1,6 @@
--- What a chart kind decides. A kind is a number: 1 duplicate, 2 check, 3 spike. Each definition states one thing that the kind
--- decides by itself, and none is the negation of another. Of a number that is no kind they say something too, which
--- plays no part: every call declines such a kind first.
+-- What a chart kind decides. A kind is a number: 1 duplicate, 2 check, 3 spike. Each definition states by itself one thing that the kind
+-- decides. Of a number that is no kind they say something too, which plays no part: every call declines such a kind before
+-- these are asked.
 use mathlib.Core.Bool.{Bool, _&&_, _||_}
 use Prim.Native.Nat.{ℕ}
 use lib.Dec.{leb, eqb}
@@ -16,7 +16,7 @@ isKind kind = leb 1 kind && leb kind 3
 abbrev pub byKind {ℓ} : {A : Type ℓ} → ℕ → A → A → A → A
 byKind kind duplicate check spike = choose (eqb kind 1) duplicate (choose (eqb kind 2) check spike)
 
--- "kinds 1 and 2 ignore the third" number of a reading
+-- "kinds 1 and 2 ignore the third" of the three numbers that a call takes
 unfoldable pub ignoresThird : ℕ → Bool
 ignoresThird kind = eqb kind 1 || eqb kind 2
 
@@ -24,6 +24,6 @@ ignoresThird kind = eqb kind 1 || eqb kind 2
 unfoldable pub inRange : ℕ → ℤ → Bool
 inRange kind w = leZ (byKind kind (pos 0) (negsuc 19999) (negsuc 19999)) w && leZ w (pos 20000)
 
--- "Kind 1 has only the upper" limits: kinds 2 and 3 have lower ones too
+-- "Kind 1 has only the upper ones": kinds 2 and 3 have lower limits too
 unfoldable pub hasLower : ℕ → Bool
 hasLower kind = eqb kind 2 || eqb kind 3

@@ -5,5 +5,6 @@ pub mod Kind
 pub mod Word
 pub mod Limits
 pub mod Rejection
+pub mod State
 pub mod Building
 pub mod Figures

@@ -14,9 +14,9 @@ unfoldable pub sumOf : List ℤ → ℤ
 sumOf [] = pos 0
 sumOf (w ∷ ws) = w +ℤ sumOf ws
 
-unfoldable pub squaresOf : List ℤ → ℤ
-squaresOf [] = pos 0
-squaresOf (w ∷ ws) = w *ℤ w +ℤ squaresOf ws
+unfoldable pub sumOfSquares : List ℤ → ℤ
+sumOfSquares [] = pos 0
+sumOfSquares (w ∷ ws) = w *ℤ w +ℤ sumOfSquares ws
 
 -- n, T and Q
 pub record Sums : Type 0 where
@@ -25,36 +25,38 @@ pub record Sums : Type 0 where
   pub q : ℤ
 
 unfoldable pub sumsOf : List ℤ → Sums
-sumsOf ws = record { n = length ws; t = sumOf ws; q = squaresOf ws }
+sumsOf ws = record { n = length ws; t = sumOf ws; q = sumOfSquares ws }
 
--- "V = nQ − T²"; "S² = V / (n(n − 1))"
+-- "V = nQ − T²"
 unfoldable pub vOf : Sums → ℤ
 vOf s = pos (s .n) *ℤ s .q -ℤ s .t *ℤ s .t
 
 -- n times the deviation of w from the mean T/n: n·w − T
-unfoldable pub deviation : Sums → ℤ → ℤ
-deviation s w = pos (s .n) *ℤ w -ℤ s .t
+unfoldable pub scaledDeviation : Sums → ℤ → ℤ
+scaledDeviation s w = pos (s .n) *ℤ w -ℤ s .t
 
--- the deviation d / n is more than m·S away from 0: (d / n)² > m²·S², that is d²·(n − 1) > m²·n·V. With no word or one, none is
+-- "S² = V / (n(n − 1))": a deviation of d / n is more than m·S, up or down, where (d / n)² > m²·S², that is d²·(n − 1) > m²·n·V.
+-- With n of 0 or 1, where there is no S, nothing exceeds
 unfoldable pub exceeds : ℕ → Sums → ℤ → Bool
 exceeds m s d = ltZ (pos (m * m * s .n) *ℤ vOf s) (d *ℤ d *ℤ pos (s .n - 1))
 
 -- w is above the mean + m·S; below the mean − m·S. "A word is beyond a limit if strictly outside it."
 unfoldable pub above : ℕ → Sums → ℤ → Bool
-above m s w = ltZ (pos 0) (deviation s w) && exceeds m s (deviation s w)
+above m s w = ltZ (pos 0) (scaledDeviation s w) && exceeds m s (scaledDeviation s w)
 
 unfoldable pub below : ℕ → Sums → ℤ → Bool
-below m s w = ltZ (deviation s w) (pos 0) && exceeds m s (deviation s w)
+below m s w = ltZ (scaledDeviation s w) (pos 0) && exceeds m s (scaledDeviation s w)
 
--- what a word is judged by: a chart kind and the sums of the base
+-- what a word is judged by: a chart kind, and the sums of the words that the limits are worked out from
 pub record Limits : Type 0 where
   pub kind : ℕ
   pub sums : Sums
 
 unfoldable pub limitsOf : ℕ → List ℤ → Limits
-limitsOf kind base = record { kind = kind; sums = sumsOf base }
+limitsOf kind words = record { kind = kind; sums = sumsOf words }
 
--- beyond the upper limit at the multiple m; beyond the lower one, which "Kind 1" has not; beyond one of them
+-- beyond the upper limit at the multiple m; beyond the lower one, which kind 1 has not; beyond one of them. (The "lower control line"
+-- of kind 1, 0, is drawn and judges nothing: its words are never below 0.)
 unfoldable pub beyondUpper : ℕ → Limits → ℤ → Bool
 beyondUpper m limits w = above m (limits .sums) w
 
@@ -64,6 +66,15 @@ beyondLower m limits w = hasLower (limits .kind) && below m (limits .sums) w
 unfoldable pub beyond : ℕ → Limits → ℤ → Bool
 beyond m limits w = beyondUpper m limits w || beyondLower m limits w
 
--- "Control limits are the mean ± 3S"
+-- "Control limits are the mean ± 3S, warning limits the mean ± 2S."
+abbrev pub controlMultiple : ℕ
+controlMultiple = 3
+
+abbrev pub warningMultiple : ℕ
+warningMultiple = 2
+
 unfoldable pub beyondControl : Limits → ℤ → Bool
-beyondControl limits w = beyond 3 limits w
+beyondControl limits w = beyond controlMultiple limits w
+
+unfoldable pub beyondWarning : Limits → ℤ → Bool
+beyondWarning limits w = beyond warningMultiple limits w

@@ -13,35 +13,35 @@ unfoldable pub without : (ℤ → Bool) → List ℤ → List ℤ
 without test [] = []
 without test (w ∷ ws) = choose (test w) (without test ws) (w ∷ without test ws)
 
--- "In each round all words beyond the control limits are removed together and the limits worked out anew from the rest"
-unfoldable pub round : ℕ → List ℤ → List ℤ
-round kind words = without (beyondControl (limitsOf kind words)) words
+-- the words left after a round: "In each round all words beyond the control limits are removed together"
+unfoldable pub afterRound : ℕ → List ℤ → List ℤ
+afterRound kind words = without (beyondControl (limitsOf kind words)) words
 
 -- what rejection leaves, the rounds that it takes, and the number of words that the rounds remove
-pub record Rejected : Type 0 where
+pub record RejectionAnswer : Type 0 where
   pub base : List ℤ
   pub rounds : ℕ
   pub removed : ℕ
 
 -- "The first round that removes nothing is the last and is counted."
-abbrev pub lastRound : List ℤ → Rejected
+abbrev pub lastRound : List ℤ → RejectionAnswer
 lastRound words = record { base = words; rounds = 1; removed = 0 }
 
--- a round that removes some words, before the rounds that r tells of
-abbrev pub oneMoreRound : ℕ → Rejected → Rejected
-oneMoreRound some r = record { base = r .base; rounds = r .rounds + 1; removed = r .removed + some }
+-- a round that removes a number of words, before the rounds that r tells of
+abbrev pub oneMoreRound : ℕ → RejectionAnswer → RejectionAnswer
+oneMoreRound number r = record { base = r .base; rounds = r .rounds + 1; removed = r .removed + number }
 
--- rejection "calls itself on the words left, whose number falls": so as many rounds as there are words, and one more, are enough.
--- `proofs/Rejection` has the two equations that a reader expects, `rejection-ends` and `rejection-goes-on`; nothing else looks at the
--- number of rounds allowed for
-unfoldable pub rejectionWithin : ℕ → ℕ → List ℤ → Rejected
+-- "and the limits worked out anew from the rest": rejection "calls itself on the words left, whose number falls". So one round more than
+-- there are words is enough, and from `rejection` the first clause is never reached. `proofs/Rejection` has the two equations that a
+-- reader expects, `rejection-ends` and `rejection-goes-on`
+unfoldable pub rejectionWithin : ℕ → ℕ → List ℤ → RejectionAnswer
 rejectionWithin zero kind words = lastRound words
-rejectionWithin (suc rounds) kind words =
-    choose (eqb (length (round kind words)) (length words))
+rejectionWithin (suc allowed) kind words =
+    choose (eqb (length (afterRound kind words)) (length words))
     (lastRound words)
-    (oneMoreRound (length words - length (round kind words)) (rejectionWithin rounds kind (round kind words)))
+    (oneMoreRound (length words - length (afterRound kind words)) (rejectionWithin allowed kind (afterRound kind words)))
 
-unfoldable pub rejection : ℕ → List ℤ → Rejected
+unfoldable pub rejection : ℕ → List ℤ → RejectionAnswer
 rejection kind words = rejectionWithin (suc (length words)) kind words
 
 -- ---- what the laws of rejection say

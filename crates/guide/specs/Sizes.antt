@@ -1,9 +1,9 @@
--- The numbers of document 01 that are constants of the chart's type in the code ("Forms in the code").
+-- The numbers that are constants of the chart's type in the code: "The limits 15, 32, 366 and 256", and 10 beside them.
 use Prim.Native.Nat.{ℕ}
 
--- "Building takes a chart kind and 15..32 words"
-abbrev pub buildLeast : ℕ
-buildLeast = 15
+-- "Building takes a chart kind and 15..32 words", and renewal "the last 15 words"
+abbrev pub baseWanted : ℕ
+baseWanted = 15
 
 abbrev pub baseMost : ℕ
 baseMost = 32

@@ -15,7 +15,8 @@ isReading x = leZ (pos 0) x && leZ x (pos 1000000000)
 unfoldable pub areReadings : ℕ → ℤ → ℤ → ℤ → Bool
 areReadings kind a b c = isReading a && (isReading b && (ignoresThird kind || isReading c))
 
--- the word is a quotient: kind 1 "20000 × |X1 − X2| / (X1 + X2)", kind 2 "10000 × X / A", kind 3 "10000 × (SSR − SR) / SA"
+-- the word is a quotient of the three numbers a, b and c. Kind 1, X1 and X2: "20000 × |X1 − X2| / (X1 + X2)". Kind 2, X and A:
+-- "10000 × X / A". Kind 3, SSR, SR and SA: "10000 × (SSR − SR) / SA"
 unfoldable pub numerator : ℕ → ℤ → ℤ → ℤ → ℤ
 numerator kind a b c =
     byKind kind
@@ -35,7 +36,7 @@ unfoldable pub nearest : ℤ → ℕ → ℤ
 nearest (pos n) d = pos (nearestNatural n d)
 nearest (negsuc n) d = negℤ (pos (nearestNatural (suc n) d))
 
--- the quotient so rounded
+-- the quotient so rounded. Readings are not negative, so the divisor is its own absolute value; a divisor of 0 is declined before
 unfoldable pub quotient : ℕ → ℤ → ℤ → ℤ → ℤ
 quotient kind a b c = nearest (numerator kind a b c) (natAbs (divisor kind a b c))
 
@@ -44,7 +45,7 @@ pub data Formed : Type 0 where
   formed : ℤ → Formed
   refused : ℕ → Formed
 
--- a word formed from a reading of a chart's kind: 5 "a reading outside 0..1,000,000,000", 6 "divisor 0", 7 "word out of range"
+-- a word formed from a reading of one of the three kinds: 5 "a reading outside 0..1,000,000,000", 6 "divisor 0", 7 "word out of range"
 unfoldable pub fromReading : ℕ → ℤ → ℤ → ℤ → Formed
 fromReading kind a b c =
     require (areReadings kind a b c) (refused 5)
