@@ -3,14 +3,14 @@
 -- `exceeds-natural`: the comparison with a limit, in natural numbers. `few-beyond`: how many words can lie beyond m·S.
 use mathlib.Core.Path.{_≡_, refl, sym, ap, _∙_}
 use mathlib.Core.Bool.{Bool, true, false, _&&_, _||_}
-use mathlib.Core.List.{List, [], _∷_}
+use mathlib.Core.List.{List, [], _∷_, _++_, map, map-append}
 use Prim.Native.Nat.{ℕ, zero, suc, _+_, _*_, _-_, _<_, _≤_}
 use native.Mathlib.Omega.{arith}
 use native.Mathlib.Nat.{mul-le-mul-left}
-use lib.ListN.{length}
+use lib.ListN.{length, length-append}
 use lib.Dec.{ltb}
 use lib.Signed.{ltZ}
-use lib.IntN.{ℤ, pos, negsuc, natAbs, negℤ, _+ℤ_, _-ℤ_, _*ℤ_}
+use lib.IntN.{ℤ, pos, negsuc, natAbs, _+ℤ_, _-ℤ_, _*ℤ_, +ℤ-assoc, +ℤ-idl, +ℤ-idr}
 use borrow.Author.Tests.{ltb-true}
 use Rattle.guide.specs.Choice.{choose}
 use Rattle.guide.specs.Kind.{hasLower}
@@ -40,9 +40,22 @@ sum-is [] = of-pos
 sum-is (w ∷ ws) = plus (of-any w) (sum-is ws)
 
 pub squares-are : (ws : List ℤ) → sumOfSquares ws ≡ pos (sumBy squareOf ws)
-unfolding sumOfSquares sumBy
+unfolding sumOfSquares sumOf sumBy
 squares-are [] = refl
 squares-are (w ∷ ws) = rw (square-magnitude w, squares-are ws)
+
+-- one word more
+sum-snoc : (ws : List ℤ) (w : ℤ) → sumOf (ws ++ (w ∷ [])) ≡ sumOf ws +ℤ w
+unfolding sumOf
+sum-snoc [] w = +ℤ-idr w ∙ sym (+ℤ-idl w)
+sum-snoc (x ∷ xs) w = ap (λ (z : ℤ). x +ℤ z) (sum-snoc xs w) ∙ sym (+ℤ-assoc x (sumOf xs) w)
+
+abbrev pub withWord : Sums → ℤ → Sums
+withWord s w = record { n = s .n + 1; t = s .t +ℤ w; q = s .q +ℤ w *ℤ w }
+
+pub sums-snoc : (ws : List ℤ) (w : ℤ) → sumsOf (ws ++ (w ∷ [])) ≡ withWord (sumsOf ws) w
+unfolding sumsOf sumOfSquares
+sums-snoc ws w = rw (length-append, sum-snoc, map-append, sum-snoc)
 
 -- ---- n·V is the sum of the squared deviations
 

@@ -2,7 +2,7 @@
 -- plus or minus a multiple m of S, for any m. S is a square root, so a word is compared with a limit "by squares of whole
 -- numbers", with the sign of its deviation.
 use mathlib.Core.Bool.{Bool, _&&_, _||_}
-use mathlib.Core.List.{List, [], _∷_}
+use mathlib.Core.List.{List, [], _∷_, map}
 use Prim.Native.Nat.{ℕ, _*_, _-_}
 use lib.ListN.{length}
 use lib.IntN.{ℤ, pos, _+ℤ_, _-ℤ_, _*ℤ_}
@@ -15,8 +15,7 @@ sumOf [] = pos 0
 sumOf (w ∷ ws) = w +ℤ sumOf ws
 
 unfoldable pub sumOfSquares : List ℤ → ℤ
-sumOfSquares [] = pos 0
-sumOfSquares (w ∷ ws) = w *ℤ w +ℤ sumOfSquares ws
+sumOfSquares ws = sumOf (map (λ (w : ℤ). w *ℤ w) ws)
 
 -- n, T and Q
 pub record Sums : Type 0 where

@@ -1,0 +1,49 @@
+-- Signed numbers as the machine holds them: a cast to a wider type keeps the number, and the absolute value by `!`.
+use mathlib.Core.Path.{_≡_, refl, sym, ap, _∙_}
+use mathlib.Core.Bool.{true, false}
+use Prim.Native.Nat.{ℕ, suc, _+_, _-_, _<_, _≤_, _^_}
+use native.Mathlib.Omega.{arith}
+use lib.Dec.{T}
+use lib.IntN.{ℤ, pos, negsuc, natAbs}
+use lib.Signed.{ltZ, nonNeg}
+use mir.Syntax.{Width, w16, w64}
+use mir.Val.{SFits, Fits, toZ, ofZ}
+use mir.Facts.{toZ-ofZ}
+use mir.ValLaws.{toZ-pos}
+use borrow.Author.Tests.{ltb-true}
+
+-- the sixteen bits of a word, cast to sixty-four
+pub wider : {w : ℤ} → SFits w16 w → SFits w64 w
+wider h = omega (arith, h)
+
+pub cast-word : {w : ℤ} → SFits w16 w → toZ w64 (ofZ w64 (toZ w16 (ofZ w16 w))) ≡ w
+cast-word {w} h = ap (λ (z : ℤ). toZ w64 (ofZ w64 z)) (toZ-ofZ h) ∙ toZ-ofZ (wider h)
+
+pub cast-fits : {w : ℤ} → SFits w16 w → SFits w64 (toZ w16 (ofZ w16 w))
+cast-fits h = rw (toZ-ofZ h) (wider h)
+
+-- a sixteen-bit word is at most 2^15 away from 0
+pub word-small : {w : ℤ} → SFits w16 w → natAbs w ≤ 32768
+word-small {w = pos n} h = omega (arith, h)
+word-small {w = negsuc n} h = omega (arith, h)
+
+-- ---- the absolute value
+
+-- `!z` of a negative number z is |z| − 1
+pub record Complement (z : ℤ) : Type 0 where
+  pub is : toZ w64 (18446744073709551615 - ofZ w64 z) ≡ pos (natAbs z - 1)
+  pub some : 0 < natAbs z
+  pub fits : natAbs z ≤ 2 ^ 63
+
+pub complement : (z : ℤ) → SFits w64 z → ltZ (toZ w64 (ofZ w64 z)) (pos 0) ≡ true → Complement z
+complement (pos n) h t = let u : ltZ (pos n) (pos 0) ≡ true = rw (toZ-ofZ h) at t in absurd (omega (arith, ltb-true n 0 u))
+complement (negsuc n) h t =
+    let m : n < 2 ^ 63 = h .sfits in
+    let e : 18446744073709551615 - ofZ w64 (negsuc n) ≡ n = omega arith in
+    let f : natAbs (negsuc n) - 1 ≡ n = omega arith in
+    record { is = ap (toZ w64) e ∙ toZ-pos w64 n m ∙ ap pos (sym f); some = omega arith; fits = omega arith }
+
+-- a number that is not negative is its own absolute value, and can be cast
+pub natural : (z : ℤ) → SFits w64 z → ltZ (toZ w64 (ofZ w64 z)) (pos 0) ≡ false → T (nonNeg (toZ w64 (ofZ w64 z))) × Fits w64 (natAbs (toZ w64 (ofZ w64 z)))
+natural (pos n) h t = rw (toZ-ofZ h) (tt, omega (arith, h))
+natural (negsuc n) h t = let u : true ≡ false = rw (toZ-ofZ h) at t in absurd (let z : _≡_ {A = ℕ} 0 1 = cc in omega arith)

@@ -1,0 +1,26 @@
+-- `limits::magnitude` meets its contract.
+use mathlib.Core.Path.{_≡_, ap, _∙_}
+use native.Mathlib.Omega.{arith}
+use lib.IntN.{natAbs}
+use mir.Facts.{toZ-ofZ}
+use Rattle.limits.proofs.Held.{complement, natural}
+use Rattle.limits.proofs.magnitude.Statement.{statement}
+use Rattle.limits.proofs.magnitude.Tie as tie
+
+cast-result : tie.Need-cast-result
+cast-result c = let k = complement (c .before .args .z) (c .before .fits .z) (c .if1 .taken) in rw (k .is) (tt, omega arith)
+
+add-result : tie.Need-add-result
+add-result c = let k = complement (c .before .args .z) (c .before .fits .z) (c .if1 .taken) in rw (k .is) (omega arith)
+
+returns : tie.Need-returns
+returns c = let k = complement (c .before .args .z) (c .before .fits .z) (c .if1 .taken) in rw (k .is) (omega arith)
+
+cast-result-2 : tie.Need-cast-result-2
+cast-result-2 c = natural (c .before .args .z) (c .before .fits .z) (c .if1 .left)
+
+returns-2 : tie.Need-returns-2
+returns-2 c = ap natAbs (toZ-ofZ (c .before .fits .z))
+
+pub magnitude-spec : {M : Type 1} → statement M
+magnitude-spec = tie.close (tie.spec cast-result add-result returns cast-result-2 returns-2)

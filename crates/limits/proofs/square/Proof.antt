@@ -1,0 +1,31 @@
+-- `limits::square` meets its contract.
+use mathlib.Core.Path.{_≡_, ap, _∙_}
+use Prim.Native.Nat.{ℕ, _*_, _≤_}
+use native.Mathlib.Omega.{arith}
+use native.Mathlib.Nat.{mul-le-mul}
+use borrow.Author.Needs.{needs}
+use lib.IntN.{natAbs}
+use Rattle.limits.proofs.Held.{cast-word, cast-fits, word-small}
+use Rattle.limits.proofs.square.Statement.{statement}
+use Rattle.limits.proofs.square.Tie as tie
+
+size : (c : tie.After-magnitude) → c .magnitude .result ≡ natAbs (c .before .args .w)
+size c = c .magnitude .ensures ∙ ap natAbs (cast-word (c .before .fits .w))
+
+small : (c : tie.After-magnitude) → c .magnitude .result * c .magnitude .result ≤ 1073741824
+small c = let b : c .magnitude .result ≤ 32768 = omega (arith, size c, word-small (c .before .fits .w)) in omega (arith, mul-le-mul b b)
+
+cast-magnitude : tie.Need-cast-magnitude
+cast-magnitude c = cast-fits (c .fits .w)
+
+magnitude-requires : tie.Need-magnitude-requires
+magnitude-requires c κs = search needs
+
+mul-result : tie.Need-mul-result
+mul-result c = omega (arith, small c)
+
+returns : tie.Need-returns
+returns c = (ap (λ (x : ℕ). x * x) (size c), small c)
+
+pub square-spec : {M : Type 1} → statement M
+square-spec = tie.close (tie.spec cast-magnitude magnitude-requires mul-result returns)

@@ -1,0 +1,28 @@
+-- What the structs of `limits` say in the paper's terms, and the numbers that the sums of sixteen-bit words stay within.
+use Prim.Native.Nat.{ℕ, _*_, _-_, _≤_, _<_, _^_}
+use lib.IntN.{ℤ, pos, natAbs}
+use Rattle.guide.specs.Sizes.{baseMost}
+use Rattle.guide.specs.Limits as guide
+use Rattle.limits.specs.declared.Sums.{Sums}
+use Rattle.limits.specs.declared.Limits.{Limits}
+
+-- n, T and Q
+abbrev pub sumsSay : Sums → guide.Sums
+sumsSay s = record { n = s .n; t = s .t; q = pos (s .q) }
+
+-- a chart kind and the sums
+abbrev pub limitsSay : Limits → guide.Limits
+limitsSay l = record { kind = l .kind; sums = sumsSay (l .sums) }
+
+-- the sums of at most 32 words of sixteen bits lie within these numbers, and V is not negative
+pub record OfBase (s : Sums) : Type 0 where
+  pub few : s .n ≤ baseMost
+  pub sum : natAbs (s .t) ≤ 32768 * s .n
+  pub squares : s .q ≤ 1073741824 * s .n
+  pub v : natAbs (s .t) * natAbs (s .t) ≤ s .n * s .q
+
+-- the two sides of the comparison of d with m·S fit 64 bits
+pub record Comparable (m : ℕ) (s : Sums) (d : ℤ) : Type 0 where
+  pub base : OfBase s
+  pub limit : m * m * (s .n * natAbs (guide.vOf (sumsSay s))) < 2 ^ 64
+  pub near : natAbs d < 2 ^ 29
