@@ -1,5 +1,6 @@
 -- The laws about the paper's definitions.
 pub mod Integers
+pub mod Held
 pub mod Booleans
 pub mod Word
 pub mod Limits

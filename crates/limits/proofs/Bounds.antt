@@ -23,7 +23,7 @@ use Rattle.guide.proofs.Integers.{of-pos, minus, is-pos, agree, times, square-m
 use Rattle.guide.proofs.Limits.{squareOf, v-natural, withWord, sums-snoc, exceeds-natural}
 use Rattle.limits.specs.declared.Sums.{Sums}
 use Rattle.limits.specs.Sums.{sumsSay, OfBase, Comparable}
-use Rattle.limits.proofs.Held.{cast-word, word-small}
+use Rattle.guide.proofs.Held.{cast-word, word-small}
 
 -- ---- V
 

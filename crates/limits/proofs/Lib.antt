@@ -1,2 +1,2 @@
-mod Held
+mod Complement
 mod Bounds

@@ -18,9 +18,13 @@ abbrev pub signed : Bool → ℕ → ℤ
 signed true n = negℤ (pos n)
 signed false n = pos n
 
--- q is the quotient of the paper, before it is rounded, and its numbers are small enough to be doubled and added
+-- the natural number n is the reading x
+pub record ReadingIs (x : ℤ) (n : ℕ) : Type 0 where
+  pub same : pos n ≡ x
+  pub small : n ≤ 1000000000
+
+-- q is the quotient of the paper, before it is rounded, and its numerator is small enough for the rounded quotient to be signed
 pub record IsQuotient (kind : ℕ) (a b c : ℤ) (q : Quotient) : Type 0 where
-  pub above : signed (q .negative) (q .numerator) ≡ guide.numerator kind a b c
-  pub under : q .divisor ≡ natAbs (guide.divisor kind a b c)
+  pub is-numerator : signed (q .negative) (q .numerator) ≡ guide.numerator kind a b c
+  pub is-divisor : q .divisor ≡ natAbs (guide.divisor kind a b c)
   pub small : q .numerator ≤ 20000000000000
-  pub few : q .divisor ≤ 2000000000

@@ -3,13 +3,14 @@
 // `word` forms a word alone. It declines, and this is the order: 1 a kind that is not 1..3, 5 a reading outside
 // 0..1,000,000,000, 6 a divisor of 0, 7 a word out of range. `from_reading` is the part that every reading goes through, with 5, 6 and
 // 7; `in_range` is the range of a kind's words.
+//
+// Tests are joined by `&` and `|`, which evaluate both sides: no test here can fail, and the result is the definition's own expression.
 ghost use mathlib.Core.Path.{_≡_};
-ghost use mathlib.Core.Bool.{Bool, true, false};
-ghost use Prim.Native.Nat.{ℕ, _+_, _-_, _*_, _≤_, _<_};
-ghost use lib.IntN.{ℤ, pos};
-ghost use Rattle.guide.specs.Kind.{isKind, inRange};
-ghost use Rattle.guide.specs.Word.{isReading, areReadings, nearest, fromReading, wordAlone};
-ghost use Rattle.words.specs.Formed.{formedSays, signed, IsQuotient};
+ghost use mathlib.Core.Bool.{true};
+ghost use Prim.Native.Nat.{_+_, _-_, _≤_, _<_};
+ghost use Rattle.guide.specs.Kind.{inRange};
+ghost use Rattle.guide.specs.Word.{isReading, areReadings, nearest, nearestNatural, fromReading, wordAlone};
+ghost use Rattle.words.specs.Formed.{formedSays, signed, ReadingIs, IsQuotient};
 
 pub enum Formed {
     Word(i16),
@@ -26,10 +27,8 @@ struct Quotient {
 pub fn word(kind: u16, a: i64, b: i64, c: i64) -> Formed
     ensures { λ r. ⌜ formedSays r ≡ wordAlone kind a b c ⌝ }
 {
-    if kind < 1 {
-        return Formed::Refused(1);
-    }
-    if 3 < kind {
+    let is_kind = (1 <= kind) & (kind <= 3);
+    if !is_kind {
         return Formed::Refused(1);
     }
     from_reading(kind, a, b, c)
@@ -56,49 +55,23 @@ pub fn from_reading(kind: u16, a: i64, b: i64, c: i64) -> Formed
 pub fn in_range(kind: u16, w: i64) -> bool
     ensures { λ r. ⌜ r ≡ inRange kind w ⌝ }
 {
-    if 20000 < w {
-        return false;
-    }
     if kind == 1 {
-        return 0 <= w;
+        return (0 <= w) & (w <= 20000);
     }
-    -20000 <= w
-}
-
-fn is_reading(x: i64) -> bool
-    ensures { λ r. ⌜ r ≡ isReading x ⌝ }
-{
-    if x < 0 {
-        return false;
-    }
-    x <= 1000000000
+    (-20000 <= w) & (w <= 20000)
 }
 
 // Kinds 1 and 2 ignore the third number, whatever it is.
 fn are_readings(kind: u16, a: i64, b: i64, c: i64) -> bool
     ensures { λ r. ⌜ r ≡ areReadings kind a b c ⌝ }
 {
-    if !is_reading(a) {
-        return false;
-    }
-    if !is_reading(b) {
-        return false;
-    }
-    if kind == 1 {
-        return true;
-    }
-    if kind == 2 {
-        return true;
-    }
-    is_reading(c)
+    is_reading(a) & (is_reading(b) & ((kind == 1) | (kind == 2) | is_reading(c)))
 }
 
-// A reading is not negative.
-fn reading(x: i64) -> u64
-    requires { ⌜ isReading x ≡ true ⌝ }
-    ensures { λ r. ⌜ (pos r ≡ x) × (r ≤ 1000000000) ⌝ }
+fn is_reading(x: i64) -> bool
+    ensures { λ r. ⌜ r ≡ isReading x ⌝ }
 {
-    x as u64
+    (0 <= x) & (x <= 1000000000)
 }
 
 fn quotient_of(kind: u16, a: i64, b: i64, c: i64) -> Quotient
@@ -128,6 +101,14 @@ fn quotient_of(kind: u16, a: i64, b: i64, c: i64) -> Quotient
     }
 }
 
+// A reading is not negative.
+fn reading(x: i64) -> u64
+    requires { ⌜ isReading x ≡ true ⌝ }
+    ensures { λ r. ⌜ ReadingIs x r ⌝ }
+{
+    x as u64
+}
+
 fn distance_of(x: u64, y: u64) -> u64
     ensures { λ r. ⌜ r ≡ (x - y) + (y - x) ⌝ }
 {
@@ -136,13 +117,23 @@ fn distance_of(x: u64, y: u64) -> u64
 
 // The nearest whole number, halves away from zero.
 fn nearest_to(q: Quotient) -> i64
-    requires { ⌜ (0 < q .divisor) × (q .divisor ≤ 2000000000) × (q .numerator ≤ 20000000000000) ⌝ }
+    requires { ⌜ (0 < q .divisor) × (q .numerator ≤ 20000000000000) ⌝ }
     ensures { λ r. ⌜ r ≡ nearest (signed (q .negative) (q .numerator)) (q .divisor) ⌝ }
 {
-    let d = q.divisor;
-    let w = ((2 * q.numerator + d) / (2 * d)) as i64;
-    if q.negative {
-        return 0 - w;
+    let w = nearest_natural(q.numerator, q.divisor) as i64;
+    if q.negative { -w } else { w }
+}
+
+// One more than the whole quotient, where what is left over is half of the divisor or more.
+fn nearest_natural(numerator: u64, divisor: u64) -> u64
+    requires { ⌜ (0 < divisor) × (numerator ≤ 20000000000000) ⌝ }
+    ensures { λ r. ⌜ (r ≡ nearestNatural numerator divisor) × (r ≤ numerator + 1) ⌝ }
+{
+    let whole = numerator / divisor;
+    let left = numerator % divisor;
+    if divisor - left <= left {
+        whole + 1
+    } else {
+        whole
     }
-    w
 }

@@ -1,7 +1,7 @@
 -- `limits::deviation_of` meets its contract.
 use native.Mathlib.Omega.{arith}
 use borrow.Author.Needs.{needs}
-use Rattle.limits.proofs.Held.{cast-fits}
+use Rattle.guide.proofs.Held.{cast-fits}
 use Rattle.limits.proofs.Bounds.{product-held, difference-held, deviation-is, deviation-small}
 use Rattle.limits.proofs.deviation_of.Statement.{statement}
 use Rattle.limits.proofs.deviation_of.Tie as tie

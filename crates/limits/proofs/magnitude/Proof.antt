@@ -3,7 +3,7 @@ use mathlib.Core.Path.{_≡_, ap, _∙_}
 use native.Mathlib.Omega.{arith}
 use lib.IntN.{natAbs}
 use mir.Facts.{toZ-ofZ}
-use Rattle.limits.proofs.Held.{complement, natural}
+use Rattle.limits.proofs.Complement.{complement, natural}
 use Rattle.limits.proofs.magnitude.Statement.{statement}
 use Rattle.limits.proofs.magnitude.Tie as tie
 

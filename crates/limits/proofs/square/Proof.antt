@@ -5,7 +5,7 @@ use native.Mathlib.Omega.{arith}
 use native.Mathlib.Nat.{mul-le-mul}
 use borrow.Author.Needs.{needs}
 use lib.IntN.{natAbs}
-use Rattle.limits.proofs.Held.{cast-word, cast-fits, word-small}
+use Rattle.guide.proofs.Held.{cast-word, cast-fits, word-small}
 use Rattle.limits.proofs.square.Statement.{statement}
 use Rattle.limits.proofs.square.Tie as tie
 

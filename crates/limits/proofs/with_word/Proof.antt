@@ -5,7 +5,7 @@ use native.Mathlib.Omega.{arith}
 use borrow.Author.Needs.{needs}
 use lib.IntN.{ℤ, natAbs}
 use mir.Facts.{toZ-ofZ}
-use Rattle.limits.proofs.Held.{cast-fits}
+use Rattle.guide.proofs.Held.{cast-fits}
 use Rattle.limits.proofs.Bounds.{sum-with-held, sum-with-is}
 use Rattle.limits.proofs.with_word.Statement.{statement}
 use Rattle.limits.proofs.with_word.Tie as tie

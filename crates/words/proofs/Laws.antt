@@ -1,0 +1,119 @@
+-- Laws of readings, quotients and rounding, over plain numbers.
+use mathlib.Core.Path.{_≡_, refl, sym}
+use mathlib.Core.Bool.{true, false, _&&_, _||_, false≢true}
+use Prim.Native.Nat.{ℕ, zero, suc, _+_, _-_, _*_, _/_, _%_, _≤_, _<_}
+use native.Mathlib.Nat.{div-add-mod', div-eq-of-lt-le, mod-lt}
+use native.Mathlib.Omega.{arith}
+use lib.Dec.{T, ltb, leb, eqb}
+use lib.IntN.{ℤ, pos, negsuc, natAbs, negℤ, _-ℤ_, _*ℤ_}
+use lib.Signed.{nonNeg, leZ}
+use mir.Syntax.{w16}
+use mir.Val.{SFits}
+use borrow.Author.Tests.{leb-true, ltb-true, ltb-false, eq-eqb, ne-eqb}
+use Rattle.guide.specs.Kind.{byKind, ignoresThird, inRange}
+use Rattle.guide.specs.Word.{isReading, areReadings, numerator, divisor, nearestNatural, nearest}
+use Rattle.guide.proofs.Booleans.{both, by-test}
+use Rattle.guide.proofs.Integers.{distance, of-pos, minus, negated, times, equal, magnitude}
+use Rattle.words.specs.Formed.{signed, ReadingIs, IsQuotient}
+
+-- ---- readings
+
+pub reading-natural : (x : ℤ) → isReading x ≡ true → T (nonNeg x) × (natAbs x ≤ 1000000000)
+unfolding isReading
+reading-natural (pos n) h = (tt, leb-true n 1000000000 (both (leb 0 n) (leb n 1000000000) h .1))
+reading-natural (negsuc n) h = absurd (false≢true h)
+
+-- what the test of three numbers says
+pub record AllReadings (kind : ℕ) (a b c : ℤ) : Type 0 where
+  pub first : isReading a ≡ true
+  pub second : isReading b ≡ true
+  pub third : (ignoresThird kind || isReading c) ≡ true
+
+pub all-readings : (kind : ℕ) (a b c : ℤ) → areReadings kind a b c ≡ true → AllReadings kind a b c
+unfolding areReadings
+all-readings kind a b c h =
+    let third = ignoresThird kind || isReading c in
+    let outer = both (isReading a) (isReading b && third) h in
+    let inner = both (isReading b) third (outer .1) in
+    record { first = outer .0; second = inner .0; third = inner .1 }
+
+-- ---- the quotient of each kind, of natural numbers
+
+distance-is : (x y : ℕ) → natAbs (pos x -ℤ pos y) ≡ distance x y
+distance-is x y = omega (arith, magnitude (minus (of-pos {n = x}) (of-pos {n = y})))
+
+signed-distance : (x y : ℕ) → signed (ltb x y) (10000 * distance x y) ≡ pos 10000 *ℤ (pos x -ℤ pos y)
+signed-distance x y =
+    let product = times 10000 (minus (of-pos {n = x}) (of-pos {n = y})) in
+    let size = of-pos {n = 10000 * distance x y} in
+    by-test (ltb x y)
+    (λ t. rw t (equal (negated size) product (omega (arith, ltb-true x y t))))
+    (λ t. rw t (equal size product (omega (arith, ltb-false x y t))))
+
+module _ {kind x y : ℕ} {a b c : ℤ} (first : ReadingIs a x) (second : ReadingIs b y) where
+  pub duplicate-quotient : {d : ℕ} → kind ≡ 1 → d ≡ distance x y
+      → IsQuotient kind a b c (record { negative = false; numerator = 20000 * d; divisor = x + y })
+  unfolding numerator divisor
+  duplicate-quotient {d} one e = record {
+    is-numerator = rw (eq-eqb kind 1 one, ← first .same, ← second .same, distance-is x y, e);
+    is-divisor = rw (eq-eqb kind 1 one, ← first .same, ← second .same);
+    small = omega arith;
+  }
+
+  pub check-quotient : (kind ≡ 1 → ⊥) → kind ≡ 2 → IsQuotient kind a b c (record { negative = false; numerator = 10000 * x; divisor = y })
+  unfolding numerator divisor
+  check-quotient not-one two = record {
+    is-numerator = rw (ne-eqb kind 1 not-one, eq-eqb kind 2 two, ← first .same);
+    is-divisor = rw (ne-eqb kind 1 not-one, eq-eqb kind 2 two, ← second .same);
+    small = omega arith;
+  }
+
+  pub spike-quotient : {d z : ℕ} → (kind ≡ 1 → ⊥) → (kind ≡ 2 → ⊥) → d ≡ distance x y → ReadingIs c z
+      → IsQuotient kind a b c (record { negative = ltb x y; numerator = 10000 * d; divisor = z })
+  unfolding numerator divisor
+  spike-quotient {d} not-one not-two e third = record {
+    is-numerator = rw (ne-eqb kind 1 not-one, ne-eqb kind 2 not-two, ← first .same, ← second .same, e) (signed-distance x y);
+    is-divisor = rw (ne-eqb kind 1 not-one, ne-eqb kind 2 not-two, ← third .same);
+    small = omega arith;
+  }
+
+-- ---- words
+
+pub least-of-others : (kind : ℕ) → eqb kind 1 ≡ false → byKind kind (pos 0) (negsuc 19999) (negsuc 19999) ≡ negsuc 19999
+least-of-others kind t = rw t (by-test (eqb kind 2) (λ u. rw u) (λ u. rw u))
+
+-- a word in range fits two bytes
+pub in-range-fits : (kind : ℕ) (w : ℤ) → inRange kind w ≡ true → SFits w16 w
+unfolding inRange
+in-range-fits kind (pos n) h =
+    let least = byKind kind (pos 0) (negsuc 19999) (negsuc 19999) in
+    omega (arith, leb-true n 20000 (both (leZ least (pos n)) (leb n 20000) h .1))
+in-range-fits kind (negsuc n) h =
+    by-test (eqb kind 1)
+    (λ t. absurd (false≢true (rw t at h)))
+    (λ t. omega (arith, leb-true n 19999 (both (leb n 19999) true (rw (least-of-others kind t) at h) .0)))
+
+-- ---- rounding
+
+nearest-natural-is : (n d k : ℕ) → k * (2 * d) ≤ 2 * n + d → 2 * n + d < (k + 1) * (2 * d) → k ≡ nearestNatural n d
+unfolding nearestNatural
+nearest-natural-is n d k least most = sym (div-eq-of-lt-le (2 * d) least most)
+
+pub half-or-more : (n d : ℕ) → 0 < d → d - n % d ≤ n % d → n / d + 1 ≡ nearestNatural n d
+half-or-more n d h t =
+    let parts = div-add-mod' n d in
+    let left = mod-lt n h in
+    nearest-natural-is n d (n / d + 1) (omega arith) (omega arith)
+
+pub less-than-half : (n d : ℕ) → n % d < d - n % d → n / d ≡ nearestNatural n d
+less-than-half n d t =
+    let parts = div-add-mod' n d in
+    nearest-natural-is n d (n / d) (omega arith) (omega arith)
+
+nearest-of-zero : (d : ℕ) → 0 < d → 0 ≡ nearestNatural 0 d
+nearest-of-zero d h = nearest-natural-is 0 d 0 (omega arith) (omega arith)
+
+pub nearest-negative : (n d : ℕ) → 0 < d → negℤ (pos (nearestNatural n d)) ≡ nearest (negℤ (pos n)) d
+unfolding nearest
+nearest-negative zero d h = rw (← nearest-of-zero d h)
+nearest-negative (suc n) d h = refl
