@@ -19,7 +19,7 @@ use Rattle.guide.proofs.Limits.{beyond-exceeds, few-beyond}
 
 -- ---- the words without those that pass a test
 
-choose-shorter : (t : Bool) (w : ℤ) (r : List ℤ) (n : ℕ) → length r ≤ n → length (choose t r (w ∷ r)) ≤ suc n
+pub choose-shorter : (t : Bool) (w : ℤ) (r : List ℤ) (n : ℕ) → length r ≤ n → length (choose t r (w ∷ r)) ≤ suc n
 choose-shorter true w r n h = omega arith
 choose-shorter false w r n h = omega arith
 

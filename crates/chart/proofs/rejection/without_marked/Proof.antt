@@ -1,0 +1,113 @@
+-- `chart::rejection::without_marked` meets its contract. The loop's invariant: the words passed that are not marked stand together.
+use mathlib.Core.Path.{_≡_, refl, sym, ap, _∙_}
+use mathlib.Core.Logic.{⊎-elim}
+use mathlib.Core.Bool.{false}
+use Prim.Native.Nat.{ℕ, _-_, _≤_, _<_, _^_}
+use native.Mathlib.Omega.{arith}
+use borrow.Author.Needs.{needs, sfits-of}
+use borrow.Author.Tests.{not-true, not-false}
+use lib.ListN.{length, take, set, getD}
+use lib.IntN.{ℤ, pos}
+use lib.Signed.{mag}
+use mir.Syntax.{w16}
+use mir.Val.{toZ, ofZ}
+use mir.Facts.{toZ-ofZ}
+use Rattle.guide.specs.Sizes.{baseMost}
+use Rattle.chart.specs.Pad.{pad}
+use Rattle.chart.specs.Rejection.{unmarked}
+use Rattle.chart.proofs.Rounds.{moved-few, turn-marked, turn-kept}
+use Rattle.chart.proofs.rejection.without_marked.Statement.{statement}
+use Rattle.chart.proofs.rejection.without_marked.Tie as tie
+
+abbrev Inv-loop : tie.InvT-loop
+Inv-loop n words marks left₀ j₀ i₀ left j i =
+    (i ≤ n) × (j ≡ length (unmarked (take i marks) (take i words))) × (left ≡ pad (pos 0) baseMost (unmarked (take i marks) (take i words)))
+
+abbrev μ-loop : tie.MeasureT-loop
+μ-loop n words marks left₀ j₀ i₀ left j i = n - i
+
+loop-holds : tie.Need-loop-holds Inv-loop μ-loop
+unfolding pad unmarked
+loop-holds c = (omega arith, refl, refl)
+
+array-read-if1 : tie.Need-array-read-if1 Inv-loop μ-loop
+array-read-if1 c = omega arith
+
+mul-w : tie.Need-mul-w Inv-loop μ-loop
+mul-w c = omega arith
+
+array-copy-out-w : tie.Need-array-copy-out-w Inv-loop μ-loop
+array-copy-out-w c = omega arith
+
+words-all : (c : tie.Start Inv-loop μ-loop) → length (c .args .t1) ≡ baseMost
+words-all c = search needs
+
+marks-all : (c : tie.Start Inv-loop μ-loop) → length (c .args .t3) ≡ baseMost
+marks-all c = search needs
+
+-- no more words stand than were passed
+few : (c : tie.In-loop Inv-loop μ-loop) → c .before .loop .j ≤ c .before .loop .i
+few c =
+    let start = c .before .before in
+    let l = c .before .loop in
+    moved-few (start .args .t3) (start .args .t1) (l .i) (l .j) (l .left)
+    (omega (arith, marks-all start)) (omega (arith, words-all start)) (omega (arith, words-all start)) (l .inv .1) (l .inv .2)
+
+mul-left : tie.Need-mul-left Inv-loop μ-loop
+mul-left c = omega (arith, few (c .before .before))
+
+array-set-from-left : tie.Need-array-set-from-left Inv-loop μ-loop
+array-set-from-left c = omega (arith, few (c .before .before))
+
+add-j : tie.Need-add-j Inv-loop μ-loop
+add-j c = omega (arith, few (c .before .before))
+
+add-i : tie.Need-add-i Inv-loop μ-loop
+add-i c = omega arith
+
+loop-less : tie.Need-loop-less Inv-loop μ-loop
+loop-less c = omega arith
+
+loop-again : tie.Need-loop-again Inv-loop μ-loop
+loop-again c =
+    let start = c .before .before .before in
+    let l = c .before .before .loop in
+    let marks = start .args .t3 in
+    let words = start .args .t1 in
+    let im : l .i < length marks = omega (arith, marks-all start) in
+    let iw : l .i < length words = omega (arith, words-all start) in
+    let all : length words ≤ baseMost = omega (arith, words-all start) in
+    let word = getD words (l .i) (pos 0) in
+    let held : mag word < 2 ^ 15 → toZ w16 (ofZ w16 word) ≡ word = λ h. toZ-ofZ (sfits-of h) in
+    let turn = ⊎-elim
+    (λ v. turn-kept marks words (l .i) (l .j) (l .left) im iw all (l .inv .1) (l .inv .2) (c .if1 .j) (c .if1 .left)
+    (not-true (getD marks (l .i) false) (v .0 .taken)) (v .3) (v .2 ∙ ap (set (l .left) (l .j)) (held (v .1 .given))))
+    (λ v. turn-marked marks words (l .i) (l .j) (l .left) im iw all (l .inv .1) (l .inv .2) (c .if1 .j) (c .if1 .left)
+    (not-false (getD marks (l .i) false) (v .0 .left)) (v .2) (v .1))
+    (c .if1 .came) in
+    (omega arith, turn .0, turn .1)
+
+returns : tie.Need-returns Inv-loop μ-loop
+returns c =
+    let l = c .before .loop in
+    let start = c .before .before in
+    let e : l .i ≡ start .args .n = omega arith in
+    record { words = rw (← e) (l .inv .2); count = rw (← e) (l .inv .1) }
+
+pub without-marked-spec : {M : Type 1} → statement M
+without-marked-spec =
+    tie.close
+    (tie.spec
+    Inv-loop
+    μ-loop
+    loop-holds
+    array-read-if1
+    mul-w
+    array-copy-out-w
+    mul-left
+    array-set-from-left
+    add-j
+    add-i
+    loop-less
+    loop-again
+    returns)

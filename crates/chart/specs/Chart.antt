@@ -1,0 +1,83 @@
+-- The program's chart and the paper's state: the state that a chart stands for, the chart that stands for a state, and what the answers'
+-- cases say.
+use mathlib.Core.Path.{_≡_}
+use mathlib.Core.Bool.{Bool, _&&_}
+use mathlib.Core.List.{List, []}
+use Prim.Native.Nat.{ℕ}
+use lib.ListN.{length, take, replicate}
+use lib.Dec.{leb}
+use lib.IntN.{ℤ, pos}
+use Rattle.guide.specs.Choice.{require}
+use Rattle.guide.specs.Sizes.{baseWanted, baseMost, seriesMost}
+use Rattle.guide.specs.Kind.{isKind}
+use Rattle.guide.specs.State.{State}
+use Rattle.guide.specs.Building.{allInRange, BuildingAnswer, built, refused, building}
+use Rattle.chart.specs.declared.Chart.{Chart}
+use Rattle.chart.specs.declared.Built.{Built}
+use Rattle.chart.specs.declared.BuildAnswer.{BuildAnswer}
+use Rattle.chart.specs.declared.BuildAnswer.the-variants.{Done, Refused}
+use Rattle.chart.specs.Pad.{pad}
+
+-- the state that a chart stands for
+unfoldable pub stateOf : Chart → State
+stateOf c =
+    record {
+      kind = c .kind;
+      base = take (c .«base_len») (c .base);
+      series = take (c .«series_len») (c .series);
+      status = c .status;
+      openVerdict = c .«open_verdict»;
+    }
+
+-- the chart that stands for a state: "unused places hold 0"
+unfoldable pub chartOf : State → Chart
+chartOf s =
+    record {
+      kind = s .kind;
+      base = pad (pos 0) baseMost (s .base);
+      «base_len» = length (s .base);
+      series = pad (pos 0) seriesMost (s .series);
+      «series_len» = length (s .series);
+      status = s .status;
+      «open_verdict» = s .openVerdict;
+    }
+
+-- a chart with an empty series and status 0
+unfoldable pub freshChart : ℕ → List ℤ → ℕ → Chart
+freshChart kind base n =
+    record {
+      kind = kind;
+      base = base;
+      «base_len» = n;
+      series = replicate seriesMost (pos 0);
+      «series_len» = 0;
+      status = 0;
+      «open_verdict» = 0;
+    }
+
+-- "a refused build or read gives a chart of zeros"
+unfoldable pub zeroChart : Chart
+zeroChart = freshChart 0 (replicate baseMost (pos 0)) 0
+
+-- the number of the first condition of building that does not hold, or 0
+unfoldable pub buildRefusal : ℕ → List ℤ → ℕ
+buildRefusal kind words =
+    require (isKind kind) 1
+    (require (leb baseWanted (length words) && leb (length words) baseMost) 2
+    (require (allInRange kind words) 3
+    0))
+
+-- what the cases say, of the chart that is given with them
+unfoldable pub buildSays : Chart → BuildAnswer → BuildingAnswer
+buildSays c (Done rounds removed) = built (stateOf c) rounds removed
+buildSays c (Refused n) = refused n
+
+-- the chart that goes with building's answer
+unfoldable pub chartAfter : BuildingAnswer → Chart
+chartAfter (built s rounds removed) = chartOf s
+chartAfter (refused n) = zeroChart
+
+-- the contract of building: its chart and its answer are the paper's
+pub record Builds (kind : ℕ) (words : List ℤ) (r : Built) : Type 0 where
+  pub chart : r .chart ≡ chartAfter (building kind words)
+  pub says : buildSays (r .chart) (r .answer) ≡ building kind words

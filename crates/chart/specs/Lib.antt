@@ -1,0 +1,3 @@
+pub mod Pad
+pub mod Rejection
+pub mod Chart
