@@ -5,11 +5,12 @@ use mathlib.Core.List.{List, [], _∷_, _++_, map, append-nil}
 use Prim.Native.Nat.{ℕ, zero, suc, _+_, _-_, _<_, _≤_}
 use native.Mathlib.Omega.{arith}
 use native.Mathlib.Numerals.{add-one}
-use lib.ListN.{length, take, set, getD, length-append, length-take}
+use lib.ListN.{length, take, set, getD, length-append, length-map}
 use lib.Seq.{take-suc, length-take-le}
 use lib.IntN.{ℤ, pos}
 use Rattle.guide.specs.Choice.{choose}
 use Rattle.guide.specs.Sizes.{baseMost}
+use Rattle.guide.specs.Limits.{Limits, limitsOf, beyondControl}
 use Rattle.guide.specs.Rejection.{without, afterRound, RejectionAnswer, rejection}
 use Rattle.guide.proofs.Rejection.{choose-shorter, round-shorter, round-whole, rejection-ends, rejection-goes-on, rejection-counts, rejection-rounds}
 use Rattle.chart.specs.declared.rejection.Rejected.{Rejected}
@@ -68,6 +69,16 @@ module _ (ms : List Bool) (ws : List ℤ) (i j : ℕ) (a : List ℤ) (im : i < l
       let k = unmarked (take i ms) (take i ws) in
       rw (next false t)
       (omega (arith, length-append k (w ∷ [])), q ∙ ap (λ (x : List ℤ). set x j w) places ∙ pad-snoc (pos 0) baseMost k w j count (omega (arith, moved-few)))
+
+-- the words without those marked as beyond their own control limits are what a round leaves
+pub round-is : (kind n : ℕ) (ws : List ℤ) (marks : List Bool) (limits : Limits) → n ≡ length ws → limits ≡ limitsOf kind ws
+    → marks ≡ pad false baseMost (map (beyondControl limits) ws) → unmarked (take n marks) ws ≡ afterRound kind ws
+unfolding afterRound
+round-is kind n ws marks limits count own e =
+    let test = beyondControl limits in
+    let same : take n marks ≡ map test ws =
+    ap (take n) e ∙ take-pad false baseMost (map test ws) n (count ∙ sym (length-map ws test)) in
+    ap (λ (x : List Bool). unmarked x ws) same ∙ unmarked-by test ws ∙ ap (λ (x : Limits). without (beyondControl x) ws) own
 
 -- ---- rejection: a round left m words in the places a
 

@@ -1,17 +1,15 @@
 -- The program's chart and the paper's state: the state that a chart stands for, the chart that stands for a state, and what the answers'
 -- cases say.
 use mathlib.Core.Path.{_≡_}
-use mathlib.Core.Bool.{Bool, _&&_}
 use mathlib.Core.List.{List, []}
 use Prim.Native.Nat.{ℕ}
 use lib.ListN.{length, take, replicate}
-use lib.Dec.{leb}
 use lib.IntN.{ℤ, pos}
 use Rattle.guide.specs.Choice.{require}
-use Rattle.guide.specs.Sizes.{baseWanted, baseMost, seriesMost}
+use Rattle.guide.specs.Sizes.{baseMost, seriesMost}
 use Rattle.guide.specs.Kind.{isKind}
 use Rattle.guide.specs.State.{State}
-use Rattle.guide.specs.Building.{allInRange, BuildingAnswer, built, refused, building}
+use Rattle.guide.specs.Building.{isEnough, allInRange, BuildingAnswer, built, refused, building}
 use Rattle.chart.specs.declared.Chart.{Chart}
 use Rattle.chart.specs.declared.Built.{Built}
 use Rattle.chart.specs.declared.BuildAnswer.{BuildAnswer}
@@ -63,7 +61,7 @@ zeroChart = freshChart 0 (replicate baseMost (pos 0)) 0
 unfoldable pub buildRefusal : ℕ → List ℤ → ℕ
 buildRefusal kind words =
     require (isKind kind) 1
-    (require (leb baseWanted (length words) && leb (length words) baseMost) 2
+    (require (isEnough words) 2
     (require (allInRange kind words) 3
     0))
 

@@ -11,7 +11,7 @@ ghost use Prim.Native.Nat.{ℕ, _≤_};
 ghost use lib.ListN.{length};
 ghost use lib.IntN.{pos};
 ghost use Rattle.guide.specs.Sizes.{baseMost};
-ghost use Rattle.guide.specs.Building.{allInRange};
+ghost use Rattle.guide.specs.Building.{isEnough, allInRange};
 ghost use Rattle.chart.specs.Pad.{pad};
 ghost use Rattle.chart.specs.Chart.{zeroChart, freshChart, buildRefusal, Builds};
 
@@ -76,22 +76,23 @@ impl Chart {
 fn build_refusal(kind: u16, words: &[i16]) -> u16
     ensures { λ r. ⌜ r ≡ buildRefusal kind (now (words .entry)) ⌝ }
 {
-    if kind < 1 {
+    if !words::is_kind(kind) {
         return 1;
     }
-    if 3 < kind {
-        return 1;
-    }
-    if words.len() < Chart::BASE_WANTED {
-        return 2;
-    }
-    if Chart::BASE_MOST < words.len() {
+    if !is_enough(words) {
         return 2;
     }
     if !all_in_range(kind, words) {
         return 3;
     }
     0
+}
+
+fn is_enough(words: &[i16]) -> bool
+    ensures { λ r. ⌜ r ≡ isEnough (now (words .entry)) ⌝ }
+{
+    let n = words.len();
+    (Chart::BASE_WANTED <= n) & (n <= Chart::BASE_MOST)
 }
 
 fn all_in_range(kind: u16, words: &[i16]) -> bool

@@ -1,6 +1,7 @@
 -- Truth values: a conjunction and a disjunction taken apart, and a test by its two outcomes.
 use mathlib.Core.Path.{_≡_, refl, sym, ap, _∙_}
 use mathlib.Core.Bool.{Bool, true, false, _&&_, _||_, not}
+use borrow.Author.Tests.{not-true, not-false}
 
 pub both : (a b : Bool) → (a && b) ≡ true → (a ≡ true) × (b ≡ true)
 both true true h = (refl, refl)
@@ -22,3 +23,10 @@ and-holds {b = b} p q = q ∙ ap (λ (y : Bool). y && b) (sym p)
 
 pub or-fails : {a b x : Bool} → a ≡ false → x ≡ b → x ≡ (a || b)
 or-fails {b = b} p q = q ∙ ap (λ (y : Bool). y || b) (sym p)
+
+-- a call's answer r to the test x, as an `if !r` found it
+pub answered-no : {r x : Bool} → r ≡ x → not r ≡ true → x ≡ false
+answered-no {r} e t = sym e ∙ not-true r t
+
+pub answered-yes : {r x : Bool} → r ≡ x → not r ≡ false → x ≡ true
+answered-yes {r} e t = sym e ∙ not-false r t

@@ -2,13 +2,13 @@
 //
 // `word` forms a word alone. It declines, and this is the order: 1 a kind that is not 1..3, 5 a reading outside
 // 0..1,000,000,000, 6 a divisor of 0, 7 a word out of range. `from_reading` is the part that every reading goes through, with 5, 6 and
-// 7; `in_range` is the range of a kind's words.
+// 7; `is_kind` and `in_range` are the kinds and the range of a kind's words, for whoever builds a chart.
 //
 // Tests are joined by `&` and `|`, which evaluate both sides: no test here can fail, and the result is the definition's own expression.
 ghost use mathlib.Core.Path.{_≡_};
 ghost use mathlib.Core.Bool.{true};
 ghost use Prim.Native.Nat.{_+_, _-_, _≤_, _<_};
-ghost use Rattle.guide.specs.Kind.{inRange};
+ghost use Rattle.guide.specs.Kind.{isKind, inRange};
 ghost use Rattle.guide.specs.Word.{isReading, areReadings, nearest, nearestNatural, fromReading, wordAlone};
 ghost use Rattle.words.specs.Formed.{formedSays, signed, ReadingIs, IsQuotient};
 
@@ -27,11 +27,17 @@ struct Quotient {
 pub fn word(kind: u16, a: i64, b: i64, c: i64) -> Formed
     ensures { λ r. ⌜ formedSays r ≡ wordAlone kind a b c ⌝ }
 {
-    let is_kind = (1 <= kind) & (kind <= 3);
-    if !is_kind {
+    if !is_kind(kind) {
         return Formed::Refused(1);
     }
     from_reading(kind, a, b, c)
+}
+
+// 1 duplicate, 2 check, 3 spike
+pub fn is_kind(kind: u16) -> bool
+    ensures { λ r. ⌜ r ≡ isKind kind ⌝ }
+{
+    (1 <= kind) & (kind <= 3)
 }
 
 pub fn from_reading(kind: u16, a: i64, b: i64, c: i64) -> Formed

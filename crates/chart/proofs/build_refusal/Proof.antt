@@ -1,39 +1,53 @@
+-- `chart::build_refusal` meets its contract.
 use borrow.Author.Needs.{needs}
+use Rattle.guide.proofs.Booleans.{answered-no, answered-yes}
+use Rattle.chart.specs.Chart.{buildRefusal}
 use Rattle.chart.proofs.build_refusal.Statement.{statement}
 use Rattle.chart.proofs.build_refusal.Tie as tie
-use Rattle.chart.proofs.build_refusal.Reads as reads
-use Rattle.chart.proofs.build_refusal.Lts as lts
-use Rattle.chart.proofs.all_in_range.Reads as all-in-range-reads
 
--- src/lib.rt:80:9
+is-kind-requires : tie.Need-is-kind-requires
+is-kind-requires c κs = search needs
+
 returns : tie.Need-returns
-returns c = ?
+unfolding buildRefusal
+returns c = rw (answered-no (c .before .is-kind .ensures) (c .if1 .taken))
 
--- src/lib.rt:83:9
+is-enough-requires : tie.Need-is-enough-requires
+is-enough-requires c κs = search needs
+
 returns-2 : tie.Need-returns-2
-returns-2 c = ?
+unfolding buildRefusal
+returns-2 c =
+    let one = c .before .before in
+    rw (answered-yes (one .before .is-kind .ensures) (one .if1 .left), answered-no (c .before .is-enough .ensures) (c .if2 .taken))
 
--- src/lib.rt:86:9
-returns-3 : tie.Need-returns-3
-returns-3 c = ?
-
--- src/lib.rt:89:9
-returns-4 : tie.Need-returns-4
-returns-4 c = ?
-
--- src/lib.rt:91:9
 all-in-range-requires : tie.Need-all-in-range-requires
 all-in-range-requires c κs = search needs
 
--- src/lib.rt:92:9
-returns-5 : tie.Need-returns-5
-returns-5 c = ?
+returns-3 : tie.Need-returns-3
+unfolding buildRefusal
+returns-3 c =
+    let two = c .before .before in
+    let one = two .before .before in
+    rw (answered-yes (one .before .is-kind .ensures) (one .if1 .left), answered-yes (two .before .is-enough .ensures) (two .if2 .left),
+    answered-no (c .before .all-in-range .ensures) (c .if3 .taken))
 
--- src/lib.rt:76:1
-returns-6 : tie.Need-returns-6
-returns-6 c = ?
+returns-4 : tie.Need-returns-4
+unfolding buildRefusal
+returns-4 c =
+    let two = c .before .before in
+    let one = two .before .before in
+    rw (answered-yes (one .before .is-kind .ensures) (one .if1 .left), answered-yes (two .before .is-enough .ensures) (two .if2 .left),
+    answered-yes (c .before .all-in-range .ensures) (c .if3 .left))
 
 pub build-refusal-spec : {M : Type 1} → statement M
 build-refusal-spec =
     tie.close
-    (tie.spec returns returns-2 returns-3 returns-4 all-in-range-requires returns-5 returns-6)
+    (tie.spec
+    is-kind-requires
+    returns
+    is-enough-requires
+    returns-2
+    all-in-range-requires
+    returns-3
+    returns-4)

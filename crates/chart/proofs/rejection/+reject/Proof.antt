@@ -1,6 +1,14 @@
-use Prim.Native.Nat.{ℕ, _<_}
+-- `chart::rejection::reject` meets its contract. The measure is the number of words: a round that removes some leaves fewer.
+use mathlib.Core.Path.{_≡_, sym, ap, _∙_}
+use mathlib.Core.List.{List}
+use Prim.Native.Nat.{ℕ, _<_, _≤_, _-_}
+use native.Mathlib.Omega.{arith}
+use lib.ListN.{length, take, length-take}
+use lib.Seq.{length-take-le}
+use lib.IntN.{ℤ}
 use borrow.Fn.Kinds.{In}
 use borrow.Fn.PlainCycle.{Measures, is, falls, and}
+use Rattle.chart.proofs.Rounds.{rejects-last, rejects-more, fewer, few-rounds}
 use Rattle.chart.proofs.rejection.reject.Reads as reject
 use Rattle.chart.proofs.rejection.reject.Kinds as reject-kinds
 use Rattle.chart.proofs.rejection.+reject.Lts-reject as reject-lts
@@ -9,7 +17,7 @@ use Rattle.chart.proofs.rejection.+reject.{statement}
 use Rattle.chart.proofs.rejection.+reject.Tie.{close}
 
 abbrev μ-reject : Measures 0 reject-kinds.ps ℕ
-μ-reject κs a = ?
+μ-reject κs a = a .1 .1 .0
 
 abbrev reject-at : ℕ → In 0 reject-kinds.ps
 reject-at t = and 0 reject-kinds.ps (is 0 reject-kinds.ps μ-reject t) reject.Pre
@@ -17,82 +25,79 @@ reject-at t = and 0 reject-kinds.ps (is 0 reject-kinds.ps μ-reject t) reject.Pr
 abbrev reject-below : ℕ → In 0 reject-kinds.ps
 reject-below t = and 0 reject-kinds.ps (falls 0 reject-kinds.ps _<_ μ-reject t) reject.Pre
 
--- src/rejection.rt:40:9
-reject-after-round-requires : (t : ℕ) → reject-lts.Need-after-round-requires (
-  after-round-reads.Asked,
-  after-round-reads.Learnt,
-  reject-below t,
-  reject.Post,
-) (reject-at t) reject.Post
-reject-after-round-requires t c κs = ?
+module _ (t : ℕ) where
+  -- the words given, and how many they are
+  abbrev words : reject-lts.Start (after-round-reads.Asked, after-round-reads.Learnt, reject-below t, reject.Post) (reject-at t) reject.Post → List ℤ
+  words c = take (c .args .n) (c .args .words)
 
--- src/rejection.rt:44:9
-reject-returns : (t : ℕ) → reject-lts.Need-returns (
-  after-round-reads.Asked,
-  after-round-reads.Learnt,
-  reject-below t,
-  reject.Post,
-) (reject-at t) reject.Post
-reject-returns t c = ?
+  count : (c : reject-lts.Start (after-round-reads.Asked, after-round-reads.Learnt, reject-below t, reject.Post) (reject-at t) reject.Post) → length (words c) ≡ c .args .n
+  count c = length-take-le (c .args .n) (c .args .words) (omega (arith, c .good .1 .0 .1 .0 .1))
 
--- src/rejection.rt:51:9
-reject-reject-requires : (t : ℕ) → reject-lts.Need-reject-requires (
-  after-round-reads.Asked,
-  after-round-reads.Learnt,
-  reject-below t,
-  reject.Post,
-) (reject-at t) reject.Post
-reject-reject-requires t c κs = ?
+  after-round-requires : reject-lts.Need-after-round-requires (after-round-reads.Asked, after-round-reads.Learnt, reject-below t, reject.Post) (reject-at t) reject.Post
+  after-round-requires c κs = c .pre .1
 
--- src/rejection.rt:56:17
-reject-add-t10 : (t : ℕ) → reject-lts.Need-add-t10 (
-  after-round-reads.Asked,
-  after-round-reads.Learnt,
-  reject-below t,
-  reject.Post,
-) (reject-at t) reject.Post
-reject-add-t10 t c = ?
+  returns : reject-lts.Need-returns (after-round-reads.Asked, after-round-reads.Learnt, reject-below t, reject.Post) (reject-at t) reject.Post
+  returns c =
+      let start = c .before .before .before in
+      let round = c .before .before .after-round in
+      rejects-last (start .args .kind) (words start) (round .result .words) (round .result .n) (round .ensures .words) (round .ensures .count)
+      (c .if1 .taken ∙ sym (count start))
 
--- src/rejection.rt:57:31
-reject-sub-t11 : (t : ℕ) → reject-lts.Need-sub-t11 (
-  after-round-reads.Asked,
-  after-round-reads.Learnt,
-  reject-below t,
-  reject.Post,
-) (reject-at t) reject.Post
-reject-sub-t11 t c = ?
+  -- the round left fewer words
+  left-fewer : (c : reject-lts.Else1 (after-round-reads.Asked, after-round-reads.Learnt, reject-below t, reject.Post) (reject-at t) reject.Post) → c .before .before .after-round .result .n < c .before .before .before .args .n
+  left-fewer c =
+      let start = c .before .before .before in
+      let round = c .before .before .after-round in
+      omega (
+        arith,
+        count start,
+        fewer (start .args .kind) (words start) (round .result .words) (round .result .n) (round .ensures .words)
+            (round .ensures .count) (λ e. c .if1 .left (e ∙ count start)),
+      )
 
--- src/rejection.rt:57:18
-reject-add-t12 : (t : ℕ) → reject-lts.Need-add-t12 (
-  after-round-reads.Asked,
-  after-round-reads.Learnt,
-  reject-below t,
-  reject.Post,
-) (reject-at t) reject.Post
-reject-add-t12 t c = ?
+  reject-requires : reject-lts.Need-reject-requires (after-round-reads.Asked, after-round-reads.Learnt, reject-below t, reject.Post) (reject-at t) reject.Post
+  reject-requires c κs =
+      let start = c .before .before .before in
+      (omega (arith, left-fewer c, start .pre .0), omega (arith, left-fewer c, start .pre .1))
 
--- src/rejection.rt:36:1
-reject-returns-2 : (t : ℕ) → reject-lts.Need-returns-2 (
-  after-round-reads.Asked,
-  after-round-reads.Learnt,
-  reject-below t,
-  reject.Post,
-) (reject-at t) reject.Post
-reject-returns-2 t c = ?
+  -- the rounds and removals after it are few
+  small : (c : reject-lts.After-reject (after-round-reads.Asked, after-round-reads.Learnt, reject-below t, reject.Post) (reject-at t) reject.Post)
+      → (c .reject .result .rounds ≤ 33) × (c .reject .result .removed ≤ 32)
+  small c =
+      let m = c .before .before .before .after-round .result .n in
+      let rest = c .before .before .before .after-round .result .words in
+      let start = c .before .before .before .before in
+      let few = few-rounds (start .args .kind) (take m rest) (c .reject .result) (c .reject .ensures) in (
+        omega (arith, few .0, length-take m rest, left-fewer (c .before), start .pre .1),
+        omega (arith, few .1, length-take m rest, left-fewer (c .before), start .pre .1),
+      )
+
+  add-t10 : reject-lts.Need-add-t10 (after-round-reads.Asked, after-round-reads.Learnt, reject-below t, reject.Post) (reject-at t) reject.Post
+  add-t10 c = omega (arith, small (c .before .before) .0)
+
+  sub-t11 : reject-lts.Need-sub-t11 (after-round-reads.Asked, after-round-reads.Learnt, reject-below t, reject.Post) (reject-at t) reject.Post
+  sub-t11 c = omega (arith, left-fewer (c .before .before .before))
+
+  add-t12 : reject-lts.Need-add-t12 (after-round-reads.Asked, after-round-reads.Learnt, reject-below t, reject.Post) (reject-at t) reject.Post
+  add-t12 c =
+      let start = c .before .before .before .before .before .before .before in
+      omega (arith, small (c .before .before .before) .1, start .pre .1)
+
+  returns-2 : reject-lts.Need-returns-2 (after-round-reads.Asked, after-round-reads.Learnt, reject-below t, reject.Post) (reject-at t) reject.Post
+  returns-2 c =
+      let again = c .before .before .before in
+      let start = again .before .before .before .before in
+      let round = again .before .before .before .after-round in
+      let more = rejects-more (start .args .kind) (words start) (round .result .words) (round .result .n) (round .ensures .words)
+      (round .ensures .count) (again .reject .result) (λ e. again .before .if1 .left (e ∙ count start)) (again .reject .ensures) in
+      rw (count start) at more
 
 pub +reject-spec : {M : Type 1} → statement M
-+reject-spec = close μ-reject λ t. reject-lts.spec (
-  after-round-reads.Asked,
-  after-round-reads.Learnt,
-  reject-below t,
-  reject.Post,
-)
-    (reject-at t)
-    reject.Post
-    (reject-after-round-requires t)
-    (reject-returns t)
-    (reject-reject-requires t)
-    (reject-add-t10 t)
-    (reject-sub-t11 t)
-    (reject-add-t12 t)
-    (reject-returns-2 t)
++reject-spec = close μ-reject λ t. reject-lts.spec (after-round-reads.Asked, after-round-reads.Learnt, reject-below t, reject.Post) (reject-at t) reject.Post
+    (after-round-requires t)
+    (returns t)
+    (reject-requires t)
+    (add-t10 t)
+    (sub-t11 t)
+    (add-t12 t)
+    (returns-2 t)

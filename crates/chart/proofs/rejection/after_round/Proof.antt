@@ -1,35 +1,43 @@
+-- `chart::rejection::after_round` meets its contract.
+use mathlib.Core.Path.{_≡_, sym, ap, _∙_}
+use native.Mathlib.Omega.{arith}
 use borrow.Author.Needs.{needs}
+use lib.ListN.{length, take}
+use lib.Seq.{length-take-le}
+use Rattle.guide.specs.Limits as guide
+use Rattle.guide.specs.Limits.{limitsOf}
+use Rattle.chart.specs.Rejection.{Holds}
+use Rattle.chart.proofs.Rounds.{round-is}
 use Rattle.chart.proofs.rejection.after_round.Statement.{statement}
 use Rattle.chart.proofs.rejection.after_round.Tie as tie
-use Rattle.chart.proofs.rejection.after_round.Reads as reads
-use Rattle.chart.proofs.rejection.after_round.Lts as lts
-use Rattle.chart.proofs.rejection.marks_beyond.Reads as marks-beyond-reads
-use Rattle.chart.proofs.rejection.without_marked.Reads as without-marked-reads
-use Rattle.limits.proofs.sums_of.Reads as sums-of-reads
 
--- src/rejection.rt:65:24
+count : (c : tie.Start) → c .args .n ≡ length (take (c .args .n) (c .args .t2))
+count c = sym (length-take-le (c .args .n) (c .args .t2) (omega (arith, c .good .1 .0 .1 .0 .1)))
+
 array-share-prefix-words : tie.Need-array-share-prefix-words
 array-share-prefix-words c = search needs
 
--- src/rejection.rt:65:24
 slice-aggregate-sums-of : tie.Need-slice-aggregate-sums-of
-slice-aggregate-sums-of c = ?
+slice-aggregate-sums-of c = count (c .before)
 
--- src/rejection.rt:65:9
 sums-of-requires : tie.Need-sums-of-requires
-sums-of-requires c κs = ?
+sums-of-requires c κs = omega (arith, count (c .before))
 
--- src/rejection.rt:66:9
 marks-beyond-requires : tie.Need-marks-beyond-requires
 marks-beyond-requires c κs = search needs
 
--- src/rejection.rt:67:5
 without-marked-requires : tie.Need-without-marked-requires
 without-marked-requires c κs = search needs
 
--- src/rejection.rt:61:1
 returns : tie.Need-returns
-returns c = ?
+unfolding limitsOf
+returns c =
+    let start = c .before .before .before .before in
+    let sums = c .before .before .sums-of .ensures .0 in
+    let own = ap (λ (s : guide.Sums). let r : guide.Limits = record { kind = start .args .kind; sums = s } in r) sums in
+    let round = round-is (start .args .kind) (start .args .n) (take (start .args .n) (start .args .t2)) (c .before .marks-beyond .result) _
+    (count start) own (c .before .marks-beyond .ensures) in
+    rw round at (c .without-marked .ensures)
 
 pub after-round-spec : {M : Type 1} → statement M
 after-round-spec =

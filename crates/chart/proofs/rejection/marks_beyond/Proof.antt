@@ -74,9 +74,10 @@ loop-again : tie.Need-loop-again Inv-loop μ-loop
 loop-again c =
     let start = c .before .before .before .before in
     let l = c .before .before .before .loop in
-    let all = count start in
-    (omega arith,
-    rw (mark c, l .inv .1) (pad-next false baseMost (marks start) (l .i) (test start (pos 0)) (omega arith) (omega arith)))
+    let all = count start in (
+      omega arith,
+      rw (mark c, l .inv .1) (pad-next false baseMost (marks start) (l .i) (test start (pos 0)) (omega arith) (omega arith)),
+    )
 
 returns : tie.Need-returns Inv-loop μ-loop
 returns c =
