@@ -158,7 +158,7 @@ fn square(w: i16) -> u64
 }
 
 // The absolute value. Of a negative number `!z` is |z| − 1, which fits whatever z is.
-fn magnitude(z: i64) -> u64
+pub fn magnitude(z: i64) -> u64
     ensures { λ r. ⌜ r ≡ natAbs z ⌝ }
 {
     if z < 0 {

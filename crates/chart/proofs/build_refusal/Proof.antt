@@ -29,16 +29,22 @@ unfolding buildRefusal
 returns-3 c =
     let two = c .before .before in
     let one = two .before .before in
-    rw (answered-yes (one .before .is-kind .ensures) (one .if1 .left), answered-yes (two .before .is-enough .ensures) (two .if2 .left),
-    answered-no (c .before .all-in-range .ensures) (c .if3 .taken))
+    rw (
+      answered-yes (one .before .is-kind .ensures) (one .if1 .left),
+      answered-yes (two .before .is-enough .ensures) (two .if2 .left),
+      answered-no (c .before .all-in-range .ensures) (c .if3 .taken),
+    )
 
 returns-4 : tie.Need-returns-4
 unfolding buildRefusal
 returns-4 c =
     let two = c .before .before in
     let one = two .before .before in
-    rw (answered-yes (one .before .is-kind .ensures) (one .if1 .left), answered-yes (two .before .is-enough .ensures) (two .if2 .left),
-    answered-yes (c .before .all-in-range .ensures) (c .if3 .left))
+    rw (
+      answered-yes (one .before .is-kind .ensures) (one .if1 .left),
+      answered-yes (two .before .is-enough .ensures) (two .if2 .left),
+      answered-yes (c .before .all-in-range .ensures) (c .if3 .left),
+    )
 
 pub build-refusal-spec : {M : Type 1} → statement M
 build-refusal-spec =

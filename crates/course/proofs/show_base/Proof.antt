@@ -1,0 +1,72 @@
+-- `course::show_base` meets its contract.
+use Prim.Native.Nat.{_-_, _≤_}
+use native.Mathlib.Omega.{arith}
+use mathlib.Core.Path.{refl}
+use Rattle.guide.specs.Sizes.{baseMost}
+use Rattle.course.proofs.show_base.Statement.{statement}
+use Rattle.course.proofs.show_base.Tie as tie
+
+abbrev Inv-loop : tie.InvT-loop
+Inv-loop n base i₀ t6 i = i ≤ baseMost
+
+abbrev μ-loop : tie.MeasureT-loop
+μ-loop n base i₀ t6 i = baseMost - i
+
+slice-aggregate-write-all : tie.Need-slice-aggregate-write-all Inv-loop μ-loop
+slice-aggregate-write-all c = refl
+
+write-all-requires : tie.Need-write-all-requires Inv-loop μ-loop
+write-all-requires c κs = tt
+
+print-decimal-requires : tie.Need-print-decimal-requires Inv-loop μ-loop
+print-decimal-requires c κs = tt
+
+loop-holds : tie.Need-loop-holds Inv-loop μ-loop
+loop-holds c = omega arith
+
+slice-aggregate-write-all-2 : tie.Need-slice-aggregate-write-all-2 Inv-loop μ-loop
+slice-aggregate-write-all-2 c = refl
+
+write-all-requires-2 : tie.Need-write-all-requires-2 Inv-loop μ-loop
+write-all-requires-2 c κs = tt
+
+mul-show-number : tie.Need-mul-show-number Inv-loop μ-loop
+mul-show-number c = omega arith
+
+array-copy-out-show-number : tie.Need-array-copy-out-show-number Inv-loop μ-loop
+array-copy-out-show-number c = omega arith
+
+show-number-requires : tie.Need-show-number-requires Inv-loop μ-loop
+show-number-requires c κs = tt
+
+add-i : tie.Need-add-i Inv-loop μ-loop
+add-i c = omega arith
+
+loop-less : tie.Need-loop-less Inv-loop μ-loop
+loop-less c = omega arith
+
+loop-again : tie.Need-loop-again Inv-loop μ-loop
+loop-again c = omega arith
+
+returns : tie.Need-returns Inv-loop μ-loop
+returns c = refl
+
+pub show-base-spec : {M : Type 1} → statement M
+show-base-spec =
+    tie.close
+    (tie.spec
+    Inv-loop
+    μ-loop
+    slice-aggregate-write-all
+    write-all-requires
+    print-decimal-requires
+    loop-holds
+    slice-aggregate-write-all-2
+    write-all-requires-2
+    mul-show-number
+    array-copy-out-show-number
+    show-number-requires
+    add-i
+    loop-less
+    loop-again
+    returns)
