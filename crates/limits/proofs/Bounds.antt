@@ -1,6 +1,6 @@
 -- The sums of at most 32 words of sixteen bits (`OfBase`): what is worked out of them fits 64 bits and is the paper's.
 use mathlib.Core.Path.{_≡_, refl, sym, ap, _∙_}
-use mathlib.Core.Bool.{Bool, true, false, _&&_}
+use mathlib.Core.Bool.{false}
 use mathlib.Core.List.{List, [], _∷_, _++_}
 use Prim.Native.Nat.{ℕ, zero, suc, _+_, _*_, _-_, _<_, _≤_, _^_}
 use native.Mathlib.Omega.{arith}
@@ -18,7 +18,6 @@ use mir.ValLaws.{toZ-pos}
 use Rattle.guide.specs.Sizes.{baseMost}
 use Rattle.guide.specs.Limits as guide
 use Rattle.guide.specs.Limits.{sumOf, sumOfSquares, sumsOf, vOf, scaledDeviation, exceeds}
-use Rattle.guide.proofs.Booleans.{and-holds}
 use Rattle.guide.proofs.Integers.{of-pos, minus, is-pos, agree, times, square-magnitude, magnitude-plus, magnitude-negated, magnitude-times, small-fits}
 use Rattle.guide.proofs.Limits.{squareOf, v-natural, withWord, sums-snoc, exceeds-natural}
 use Rattle.limits.specs.declared.Sums.{Sums}
@@ -181,20 +180,12 @@ comparable m s d h b k =
     let p : m ≤ 255 = omega arith in
     record { base = b; limit = omega (arith, mul-le-mul (mul-le-mul p p) (mul-le-mul (b .few) (v-small s b))); near = omega arith }
 
--- ---- a word on a side of a limit: the side is a test of the deviation, which the machine holds as r
+-- ---- a word's deviation, as the machine holds it
 
 module _ (m : ℕ) (s : Sums) (w r : ℤ) (few : m < 256) (b : OfBase s) (h : SFits w16 w)
     (e : r ≡ scaledDeviation (sumsSay s) (toZ w16 (ofZ w16 w))) (k : natAbs r ≤ 2097152) where
-  deviation-held : toZ w64 (ofZ w64 r) ≡ scaledDeviation (sumsSay s) w
+  pub deviation-held : toZ w64 (ofZ w64 r) ≡ scaledDeviation (sumsSay s) w
   deviation-held = toZ-ofZ (small-fits (omega (arith, k))) ∙ e ∙ ap (scaledDeviation (sumsSay s)) (toZ-ofZ h)
 
   pub held-comparable : Comparable m s (toZ w64 (ofZ w64 r))
   held-comparable = rw deviation-held (comparable m s (scaledDeviation (sumsSay s) w) few b (deviation-small s b w h))
-
-  pub on-side : (side : ℤ → Bool) (x : Bool) → side (toZ w64 (ofZ w64 r)) ≡ true → x ≡ exceeds m (sumsSay s) (toZ w64 (ofZ w64 r))
-      → x ≡ (side (scaledDeviation (sumsSay s) w) && exceeds m (sumsSay s) (scaledDeviation (sumsSay s) w))
-  on-side side x t f = and-holds (ap side (sym deviation-held) ∙ t) (f ∙ ap (exceeds m (sumsSay s)) deviation-held)
-
-  pub off-side : (side : ℤ → Bool) → side (toZ w64 (ofZ w64 r)) ≡ false
-      → false ≡ (side (scaledDeviation (sumsSay s) w) && exceeds m (sumsSay s) (scaledDeviation (sumsSay s) w))
-  off-side side t = let u : side (scaledDeviation (sumsSay s) w) ≡ false = rw deviation-held at t in rw u

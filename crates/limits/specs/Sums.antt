@@ -1,10 +1,12 @@
 -- What the structs of `limits` say in the paper's terms, and the numbers that the sums of sixteen-bit words stay within.
+use mathlib.Core.Path.{_≡_}
 use Prim.Native.Nat.{ℕ, _*_, _-_, _≤_, _<_, _^_}
 use lib.IntN.{ℤ, pos, natAbs}
 use Rattle.guide.specs.Sizes.{baseMost}
 use Rattle.guide.specs.Limits as guide
 use Rattle.limits.specs.declared.Sums.{Sums}
 use Rattle.limits.specs.declared.Limits.{Limits}
+use Rattle.limits.specs.declared.BeyondLimits.{BeyondLimits}
 
 -- n, T and Q
 abbrev pub sumsSay : Sums → guide.Sums
@@ -20,6 +22,11 @@ pub record OfBase (s : Sums) : Type 0 where
   pub sum : natAbs (s .t) ≤ 32768 * s .n
   pub squares : s .q ≤ 1073741824 * s .n
   pub v : natAbs (s .t) * natAbs (s .t) ≤ s .n * s .q
+
+-- a word is beyond the upper limit at the multiple m; beyond the lower one
+pub record IsBeyond (m : ℕ) (limits : guide.Limits) (w : ℤ) (b : BeyondLimits) : Type 0 where
+  pub upper : b .upper ≡ guide.beyondUpper m limits w
+  pub lower : b .lower ≡ guide.beyondLower m limits w
 
 -- the two sides of the comparison of d with m·S fit 64 bits
 pub record Comparable (m : ℕ) (s : Sums) (d : ℤ) : Type 0 where

@@ -1,7 +1,7 @@
 // Sums of words, and a word against a limit: document 01, "Base, limits, rejection".
 //
-// A limit is the mean plus or minus a multiple m of S. `sums_of` gives n, T and Q of some words; `beyond_upper` and `beyond_lower` compare
-// a word with a limit at any m, by squares of whole numbers. `CONTROL` and `WARNING` are the paper's two multiples.
+// A limit is the mean plus or minus a multiple m of S. `sums_of` gives n, T and Q of some words; `beyond` compares a word with the
+// limits at any m, by squares of whole numbers, and `beyond_control` at the paper's 3.
 ghost use mathlib.Core.Path.{_≡_};
 ghost use mathlib.Core.Bool.{Bool};
 ghost use Prim.Native.Nat.{ℕ, suc, _+_, _*_, _-_, _≤_, _<_};
@@ -9,8 +9,8 @@ ghost use lib.ListN.{length};
 ghost use lib.IntN.{ℤ, pos, natAbs, _+ℤ_, _*ℤ_};
 ghost use Rattle.guide.specs.Sizes.{baseMost};
 ghost use Rattle.guide.specs.Kind.{hasLower};
-ghost use Rattle.guide.specs.Limits.{sumsOf, vOf, scaledDeviation, exceeds, above, below, beyondUpper, beyondLower, beyondControl};
-ghost use Rattle.limits.specs.Sums.{sumsSay, limitsSay, OfBase, Comparable};
+ghost use Rattle.guide.specs.Limits.{sumsOf, vOf, scaledDeviation, exceeds, beyondControl};
+ghost use Rattle.limits.specs.Sums.{sumsSay, limitsSay, OfBase, Comparable, IsBeyond};
 
 // Control limits are the mean ± 3S, warning limits the mean ± 2S.
 pub const CONTROL: u8 = 3;
@@ -22,6 +22,12 @@ pub struct Sums {
     pub n: u64,
     pub t: i64,
     pub q: u64,
+}
+
+// Whether a word is beyond the upper limit, and whether it is beyond the lower one.
+pub struct BeyondLimits {
+    pub upper: bool,
+    pub lower: bool,
 }
 
 // What a word is judged by: a chart kind, and the sums of the words that the limits are worked out from.
@@ -47,63 +53,28 @@ pub fn beyond_control(l: Limits, w: i16) -> bool
     requires { ⌜ OfBase (l .sums) ⌝ }
     ensures { λ r. ⌜ r ≡ beyondControl (limitsSay l) w ⌝ }
 {
-    if beyond_upper(CONTROL, l, w) {
-        return true;
-    }
-    beyond_lower(CONTROL, l, w)
+    let b = beyond(CONTROL, l, w);
+    b.upper | b.lower
 }
 
-pub fn beyond_upper(m: u8, l: Limits, w: i16) -> bool
+// A word against the limits at the multiple m. Kind 1 has no lower limit.
+pub fn beyond(m: u8, l: Limits, w: i16) -> BeyondLimits
     requires { ⌜ OfBase (l .sums) ⌝ }
-    ensures { λ r. ⌜ r ≡ beyondUpper m (limitsSay l) w ⌝ }
+    ensures { λ r. ⌜ IsBeyond m (limitsSay l) w r ⌝ }
 {
     let s = l.sums;
-    is_above(m, s, w)
-}
-
-// Kind 1 has no lower limit.
-pub fn beyond_lower(m: u8, l: Limits, w: i16) -> bool
-    requires { ⌜ OfBase (l .sums) ⌝ }
-    ensures { λ r. ⌜ r ≡ beyondLower m (limitsSay l) w ⌝ }
-{
-    if !has_lower(l.kind) {
-        return false;
+    let d = deviation_of(s, w);
+    let far = exceeds_by(m as u16, s, d);
+    BeyondLimits {
+        upper: (0 < d) & far,
+        lower: has_lower(l.kind) & ((d < 0) & far),
     }
-    let s = l.sums;
-    is_below(m, s, w)
 }
 
 fn has_lower(kind: u16) -> bool
     ensures { λ r. ⌜ r ≡ hasLower kind ⌝ }
 {
-    if kind == 2 {
-        return true;
-    }
-    kind == 3
-}
-
-// Is w above the mean + m·S?
-fn is_above(m: u8, s: Sums, w: i16) -> bool
-    requires { ⌜ OfBase s ⌝ }
-    ensures { λ r. ⌜ r ≡ above m (sumsSay s) w ⌝ }
-{
-    let d = deviation_of(s, w);
-    if 0 < d {
-        return exceeds_by(m as u16, s, d);
-    }
-    false
-}
-
-// Is w below the mean − m·S?
-fn is_below(m: u8, s: Sums, w: i16) -> bool
-    requires { ⌜ OfBase s ⌝ }
-    ensures { λ r. ⌜ r ≡ below m (sumsSay s) w ⌝ }
-{
-    let d = deviation_of(s, w);
-    if d < 0 {
-        return exceeds_by(m as u16, s, d);
-    }
-    false
+    (kind == 2) | (kind == 3)
 }
 
 // Is a deviation of d / n more than m·S, up or down? That is d²·(n − 1) > m²·n·V.
