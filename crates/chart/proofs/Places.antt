@@ -1,18 +1,14 @@
 -- Laws of a list in an array that may be longer, over any type of element.
-use mathlib.Core.Path.{_≡_, refl, sym, ap, _∙_}
+use mathlib.Core.Path.{_≡_, sym, ap, _∙_}
 use mathlib.Core.List.{List, [], _∷_, _++_, append-assoc}
-use Prim.Native.Nat.{ℕ, zero, suc, _+_, _-_, _<_, _≤_}
+use Prim.Native.Nat.{ℕ, suc, _+_, _-_, _<_, _≤_}
 use native.Mathlib.Omega.{arith}
 use native.Mathlib.Numerals.{add-one}
-use lib.ListN.{length, take, set, getD, replicate, length-append, length-replicate}
+use lib.ListN.{length, take, set, getD, replicate, length-append}
 use lib.Seq.{take-at, set-at, take-suc, length-take-le}
 use Rattle.chart.specs.Pad.{pad}
 
 module _ {ℓ} {A : Type ℓ} (filler : A) (size : ℕ) where
-  pub pad-length : (l : List A) → length l ≤ size → length (pad filler size l) ≡ size
-  unfolding pad
-  pad-length l h = omega (arith, length-append l (replicate (size - length l) filler), length-replicate (size - length l) filler)
-
   -- the list itself again
   pub take-pad : (l : List A) (n : ℕ) → n ≡ length l → take n (pad filler size l) ≡ l
   unfolding pad

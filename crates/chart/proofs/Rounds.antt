@@ -2,7 +2,7 @@
 use mathlib.Core.Path.{_≡_, refl, sym, ap, _∙_}
 use mathlib.Core.Bool.{Bool, true, false}
 use mathlib.Core.List.{List, [], _∷_, _++_, map, append-nil}
-use Prim.Native.Nat.{ℕ, zero, suc, _+_, _-_, _<_, _≤_}
+use Prim.Native.Nat.{ℕ, _+_, _-_, _<_, _≤_}
 use native.Mathlib.Omega.{arith}
 use native.Mathlib.Numerals.{add-one}
 use lib.ListN.{length, take, set, getD, length-append, length-map}
@@ -11,8 +11,9 @@ use lib.IntN.{ℤ, pos}
 use Rattle.guide.specs.Choice.{choose}
 use Rattle.guide.specs.Sizes.{baseMost}
 use Rattle.guide.specs.Limits.{Limits, limitsOf, beyondControl}
-use Rattle.guide.specs.Rejection.{without, afterRound, RejectionAnswer, rejection}
-use Rattle.guide.proofs.Rejection.{choose-shorter, round-shorter, round-whole, rejection-ends, rejection-goes-on, rejection-counts, rejection-rounds}
+use Rattle.guide.specs.Rejection.{without, afterRound, RejectionAnswer}
+use Rattle.guide.proofs.Rejection.{choose-shorter, round-shorter, round-whole, rejection-ends, rejection-goes-on, rejection-counts}
+use Rattle.guide.proofs.Rejection.{rejection-rounds}
 use Rattle.chart.specs.declared.rejection.Rejected.{Rejected}
 use Rattle.chart.specs.Pad.{pad}
 use Rattle.chart.specs.Rejection.{unmarked, Rejects}

@@ -1,7 +1,7 @@
 -- The program's chart and the paper's state: the state that a chart stands for, the chart that stands for a state, and what the answers'
 -- cases say.
 use mathlib.Core.Path.{_≡_}
-use mathlib.Core.List.{List, []}
+use mathlib.Core.List.{List}
 use Prim.Native.Nat.{ℕ}
 use lib.ListN.{length, take, replicate}
 use lib.IntN.{ℤ, pos}

@@ -1,5 +1,5 @@
 -- Truth values: a conjunction and a disjunction taken apart, and a test by its two outcomes.
-use mathlib.Core.Path.{_≡_, refl, sym, ap, _∙_}
+use mathlib.Core.Path.{_≡_, refl, sym, _∙_}
 use mathlib.Core.Bool.{Bool, true, false, _&&_, _||_, not}
 use borrow.Author.Tests.{not-true, not-false}
 
@@ -16,13 +16,6 @@ either false b h f g = g h
 pub by-test {ℓ} : {P : Type ℓ} (t : Bool) → (t ≡ true → P) → (t ≡ false → P) → P
 by-test true f g = f refl
 by-test false f g = g refl
-
--- a conjunction whose first part holds, and a disjunction whose first part does not, are the second part
-pub and-holds : {a b x : Bool} → a ≡ true → x ≡ b → x ≡ (a && b)
-and-holds {b = b} p q = q ∙ ap (λ (y : Bool). y && b) (sym p)
-
-pub or-fails : {a b x : Bool} → a ≡ false → x ≡ b → x ≡ (a || b)
-or-fails {b = b} p q = q ∙ ap (λ (y : Bool). y || b) (sym p)
 
 -- a call's answer r to the test x, as an `if !r` found it
 pub answered-no : {r x : Bool} → r ≡ x → not r ≡ true → x ≡ false

@@ -1,10 +1,10 @@
 -- The starred figures: what the definitions give is what the course says, in every row.
 use mathlib.Core.Path.{_≡_, refl}
-use mathlib.Core.List.{List, map}
-use lib.IntN.{ℤ}
+use mathlib.Core.List.{map}
 use Rattle.guide.specs.Kind.{isKind, ignoresThird, inRange, hasLower}
 use Rattle.guide.specs.Word.{isReading, areReadings, numerator, divisor, nearestNatural, nearest, quotient, fromReading, wordAlone}
-use Rattle.guide.specs.Limits.{sumOf, sumOfSquares, sumsOf, vOf, scaledDeviation, exceeds, above, below, limitsOf, beyondUpper, beyondLower, beyond, beyondControl, beyondWarning}
+use Rattle.guide.specs.Limits.{sumOf, sumOfSquares, sumsOf, vOf, scaledDeviation, exceeds, above, below, limitsOf, beyondUpper}
+use Rattle.guide.specs.Limits.{beyondLower, beyond, beyondControl, beyondWarning}
 use Rattle.guide.specs.Rejection.{without, afterRound, rejectionWithin, rejection}
 use Rattle.guide.specs.State.{fresh}
 use Rattle.guide.specs.Building.{isEnough, allInRange, building}

@@ -4,12 +4,11 @@ use mathlib.Core.Path.{_≡_, refl, sym, ap, _∙_}
 use mathlib.Core.Bool.{Bool, true, false, cond}
 use Prim.Native.Nat.{ℕ, zero, suc, _+_, _*_, _-_, _<_, _≤_, _^_}
 use native.Mathlib.Omega.{arith}
-use lib.Dec.{ltb, leb}
+use lib.Dec.{ltb}
 use lib.IntN.{ℤ, pos, negsuc, natAbs, subℕ, negℤ, _+ℤ_, _-ℤ_, _*ℤ_}
-use lib.Signed.{mag, ltZ, leZ}
-use mir.Syntax.{Width, w64}
+use mir.Syntax.{Width}
 use mir.Val.{SFits, hbits}
-use borrow.Author.Tests.{ltb-true, ltb-false, lt-ltb, le-ltb}
+use borrow.Author.Tests.{ltb-true, ltb-false}
 
 -- how far apart two naturals are
 abbrev pub distance : ℕ → ℕ → ℕ
@@ -73,26 +72,6 @@ distance-square a b =
 sub-magnitude : (a b : ℕ) → natAbs (subℕ a b) ≡ distance a b
 sub-magnitude a b = sub-cases a b (λ z. natAbs z ≡ distance a b) (λ k p. omega arith) (λ k p. omega arith)
 
--- ---- tests that go together
-
-pub same-test : (a b c d : ℕ) → (a < b → c < d) → (b ≤ a → d ≤ c) → ltb a b ≡ ltb c d
-same-test a b c d f g =
-    sub-cases a b (λ z. ltb a b ≡ ltb c d)
-    (λ k p. le-ltb a b (omega arith) ∙ sym (le-ltb c d (g (omega arith))))
-    (λ k p. lt-ltb a b (omega arith) ∙ sym (lt-ltb c d (f (omega arith))))
-
-sub-above : (a b : ℕ) → ltZ (pos 0) (subℕ a b) ≡ ltb b a
-sub-above a b =
-    sub-cases a b (λ z. ltZ (pos 0) z ≡ ltb b a)
-    (λ k p. same-test 0 k b a (λ h. omega arith) (λ h. omega arith))
-    (λ k p. sym (le-ltb b a (omega arith)))
-
-sub-below : (a b : ℕ) → ltZ (subℕ a b) (pos 0) ≡ ltb a b
-sub-below a b =
-    sub-cases a b (λ z. ltZ z (pos 0) ≡ ltb a b)
-    (λ k p. le-ltb k 0 (omega arith) ∙ sym (le-ltb a b (omega arith)))
-    (λ k p. sym (lt-ltb a b (omega arith)))
-
 -- ---- z is a − b
 
 pub record Diff (z : ℤ) (a b : ℕ) : Type 0 where
@@ -155,12 +134,6 @@ squared {z} {a} {b} p =
 
 pub is-pos : {z : ℤ} {a b : ℕ} (k : ℕ) → Diff z a b → a ≡ b + k → z ≡ pos k
 is-pos {a = a} {b = b} k p e = p .is ∙ sub-pos a b k e
-
-pub is-above : {z : ℤ} {a b : ℕ} → Diff z a b → ltZ (pos 0) z ≡ ltb b a
-is-above {a = a} {b = b} p = ap (λ (x : ℤ). ltZ (pos 0) x) (p .is) ∙ sub-above a b
-
-pub is-below : {z : ℤ} {a b : ℕ} → Diff z a b → ltZ z (pos 0) ≡ ltb a b
-is-below {a = a} {b = b} p = ap (λ (x : ℤ). ltZ x (pos 0)) (p .is) ∙ sub-below a b
 
 pub equal : {z y : ℤ} {a b c d : ℕ} → Diff z a b → Diff y c d → a + d ≡ c + b → z ≡ y
 equal {c = c} {d = d} p q e = recast c d p e .is ∙ sym (q .is)

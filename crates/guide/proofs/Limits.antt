@@ -2,9 +2,9 @@
 -- `squared-deviations`: n·V is the sum of the squared deviations, so V is never negative (`v-natural`).
 -- `exceeds-natural`: the comparison with a limit, in natural numbers. `few-beyond`: how many words can lie beyond m·S.
 use mathlib.Core.Path.{_≡_, refl, sym, ap, _∙_}
-use mathlib.Core.Bool.{Bool, true, false, _&&_, _||_}
-use mathlib.Core.List.{List, [], _∷_, _++_, map, map-append}
-use Prim.Native.Nat.{ℕ, zero, suc, _+_, _*_, _-_, _<_, _≤_}
+use mathlib.Core.Bool.{Bool, true, false}
+use mathlib.Core.List.{List, [], _∷_, _++_, map-append}
+use Prim.Native.Nat.{ℕ, suc, _+_, _*_, _-_, _<_, _≤_}
 use native.Mathlib.Omega.{arith}
 use native.Mathlib.Nat.{mul-le-mul-left}
 use lib.ListN.{length, length-append}
@@ -14,10 +14,12 @@ use lib.IntN.{ℤ, pos, negsuc, natAbs, _+ℤ_, _-ℤ_, _*ℤ_, +ℤ-assoc, +ℤ
 use borrow.Author.Tests.{ltb-true}
 use Rattle.guide.specs.Choice.{choose}
 use Rattle.guide.specs.Kind.{hasLower}
-use Rattle.guide.specs.Limits.{Sums, sumOf, sumOfSquares, sumsOf, vOf, scaledDeviation, exceeds, above, below, Limits, beyondUpper, beyondLower, beyond}
+use Rattle.guide.specs.Limits.{Sums, sumOf, sumOfSquares, sumsOf, vOf, scaledDeviation, exceeds, above, below, Limits, beyondUpper}
+use Rattle.guide.specs.Limits.{beyondLower, beyond}
 use Rattle.guide.specs.Rejection.{without}
 use Rattle.guide.proofs.Booleans.{both, either}
-use Rattle.guide.proofs.Integers.{sub-cases, Diff, of-pos, of-neg, of-any, up, down, recast, plus, minus, times, square-of, squared, square-magnitude, is-pos, agree}
+use Rattle.guide.proofs.Integers.{sub-cases, Diff, of-pos, of-neg, of-any, up, down, recast, plus, minus, times, square-of, squared}
+use Rattle.guide.proofs.Integers.{square-magnitude, is-pos, agree}
 
 -- the sum of f over some words
 unfoldable pub sumBy : (ℤ → ℕ) → List ℤ → ℕ

@@ -1,7 +1,7 @@
 -- Laws of rejection. `rejection-ends` and `rejection-goes-on` are its two equations, and `rejection-ind` the induction that they give; the
 -- rest follows by it: rounds and removals are counted as the paper counts, the words left are in their old order, none is
 -- beyond the limits of the words left, and of ten words or more at least ten are left.
-use mathlib.Core.Path.{_≡_, refl, sym, ap, subst, _∙_}
+use mathlib.Core.Path.{_≡_, refl, ap}
 use mathlib.Core.Bool.{Bool, true, false, _&&_, not}
 use mathlib.Core.List.{List, [], _∷_}
 use Prim.Native.Nat.{ℕ, zero, suc, _+_, _*_, _-_, _<_, _≤_}
@@ -12,8 +12,9 @@ use lib.IntN.{ℤ}
 use borrow.Author.Tests.{eqb-true, eqb-false, eq-eqb, ne-eqb}
 use Rattle.guide.specs.Choice.{choose}
 use Rattle.guide.specs.Sizes.{baseLeast}
-use Rattle.guide.specs.Limits.{limitsOf, sumsOf, beyondControl}
-use Rattle.guide.specs.Rejection.{without, afterRound, RejectionAnswer, lastRound, oneMoreRound, rejectionWithin, rejection, noneOf, InOrder, none, kept, removed}
+use Rattle.guide.specs.Limits.{limitsOf, beyondControl}
+use Rattle.guide.specs.Rejection.{without, afterRound, RejectionAnswer, lastRound, oneMoreRound, rejectionWithin, rejection, noneOf}
+use Rattle.guide.specs.Rejection.{InOrder, none, kept, removed}
 use Rattle.guide.proofs.Booleans.{by-test}
 use Rattle.guide.proofs.Limits.{beyond-exceeds, few-beyond}
 

@@ -1,9 +1,9 @@
 -- Laws of rounding: `nearest` is the nearest whole number, and a half goes away from zero. The two together leave no other number.
-use mathlib.Core.Path.{_≡_, refl, sym, ap, _∙_}
-use Prim.Native.Nat.{ℕ, zero, suc, _+_, _*_, _/_, _%_, _<_, _≤_}
+use mathlib.Core.Path.{_≡_, ap}
+use Prim.Native.Nat.{ℕ, suc, _+_, _*_, _%_, _<_, _≤_}
 use native.Mathlib.Omega.{arith}
 use native.Mathlib.Nat.{div-add-mod', mod-lt}
-use lib.IntN.{ℤ, pos, negsuc, natAbs, negℤ, _-ℤ_, _*ℤ_}
+use lib.IntN.{ℤ, pos, negsuc, natAbs, _-ℤ_, _*ℤ_}
 use Rattle.guide.specs.Word.{nearestNatural, nearest}
 use Rattle.guide.proofs.Integers.{of-pos, of-neg, negated, minus, times, magnitude, magnitude-negated}
 

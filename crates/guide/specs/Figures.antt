@@ -3,12 +3,12 @@
 -- the program `course`.
 use mathlib.Core.Bool.{Bool, true, false}
 use mathlib.Core.List.{List, [], _∷_, _++_}
-use Prim.Native.Nat.{ℕ, _*_}
-use lib.ListN.{length, replicate}
+use Prim.Native.Nat.{_*_}
+use lib.ListN.{replicate}
 use lib.IntN.{ℤ, pos, negsuc}
 use Rattle.guide.specs.Word as word
-use Rattle.guide.specs.Limits.{Sums, sumsOf, vOf, Limits, limitsOf, controlMultiple, warningMultiple, beyondUpper, beyondLower, beyondControl, beyondWarning}
-use Rattle.guide.specs.State.{State}
+use Rattle.guide.specs.Limits.{Sums, sumsOf, vOf, Limits, limitsOf, controlMultiple, warningMultiple, beyondUpper, beyondLower}
+use Rattle.guide.specs.Limits.{beyondControl, beyondWarning}
 use Rattle.guide.specs.Building as build
 
 pub record Row : Type 0 where

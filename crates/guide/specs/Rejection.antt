@@ -1,5 +1,5 @@
 -- Document 01, "Base, limits, rejection": rounds of rejection, what they leave, and how many rounds and words they take.
-use mathlib.Core.Bool.{Bool, true, false, _&&_, not}
+use mathlib.Core.Bool.{Bool, true, _&&_, not}
 use mathlib.Core.List.{List, [], _∷_}
 use Prim.Native.Nat.{ℕ, zero, suc, _+_, _-_}
 use lib.ListN.{length}

@@ -1,8 +1,8 @@
 -- The sums of at most 32 words of sixteen bits (`OfBase`): what is worked out of them fits 64 bits and is the paper's.
-use mathlib.Core.Path.{_≡_, refl, sym, ap, _∙_}
+use mathlib.Core.Path.{_≡_, sym, ap, _∙_}
 use mathlib.Core.Bool.{false}
-use mathlib.Core.List.{List, [], _∷_, _++_}
-use Prim.Native.Nat.{ℕ, zero, suc, _+_, _*_, _-_, _<_, _≤_, _^_}
+use mathlib.Core.List.{List, []}
+use Prim.Native.Nat.{ℕ, _+_, _*_, _-_, _<_, _≤_, _^_}
 use native.Mathlib.Omega.{arith}
 use native.Mathlib.Nat.{mul-le-mul}
 use native.Mathlib.Numerals.{add-one}
@@ -18,7 +18,8 @@ use mir.ValLaws.{toZ-pos}
 use Rattle.guide.specs.Sizes.{baseMost}
 use Rattle.guide.specs.Limits as guide
 use Rattle.guide.specs.Limits.{sumOf, sumOfSquares, sumsOf, vOf, scaledDeviation, exceeds}
-use Rattle.guide.proofs.Integers.{of-pos, minus, is-pos, agree, times, square-magnitude, magnitude-plus, magnitude-negated, magnitude-times, small-fits}
+use Rattle.guide.proofs.Integers.{of-pos, minus, is-pos, agree, square-magnitude, magnitude-plus, magnitude-negated, magnitude-times}
+use Rattle.guide.proofs.Integers.{small-fits}
 use Rattle.guide.proofs.Limits.{squareOf, v-natural, withWord, sums-snoc, exceeds-natural}
 use Rattle.limits.specs.declared.Sums.{Sums}
 use Rattle.limits.specs.Sums.{sumsSay, OfBase, Comparable}

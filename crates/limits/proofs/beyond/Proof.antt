@@ -4,7 +4,7 @@ use borrow.Author.Needs.{needs}
 use mir.Syntax.{w64}
 use mir.Val.{toZ, ofZ}
 use Rattle.guide.specs.Limits.{scaledDeviation, above, below, beyondUpper, beyondLower}
-use Rattle.limits.specs.Sums.{sumsSay, Comparable}
+use Rattle.limits.specs.Sums.{sumsSay}
 use Rattle.limits.proofs.Bounds.{deviation-held, held-comparable}
 use Rattle.limits.proofs.beyond.Statement.{statement}
 use Rattle.limits.proofs.beyond.Tie as tie

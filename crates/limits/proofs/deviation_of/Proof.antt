@@ -1,5 +1,4 @@
 -- `limits::deviation_of` meets its contract.
-use native.Mathlib.Omega.{arith}
 use borrow.Author.Needs.{needs}
 use Rattle.guide.proofs.Held.{cast-fits}
 use Rattle.limits.proofs.Bounds.{product-held, difference-held, deviation-is, deviation-small}

@@ -1,12 +1,8 @@
 -- `chart::Chart::build` meets its contract.
-use mathlib.Core.Path.{_≡_, sym, ap, _∙_}
-use mathlib.Core.List.{List}
 use Prim.Native.Nat.{_≤_}
-use native.Mathlib.Omega.{arith}
 use borrow.Author.Needs.{needs}
 use denote.Ref.{now}
 use lib.ListN.{length}
-use lib.IntN.{ℤ}
 use Rattle.guide.specs.Sizes.{baseMost}
 use Rattle.chart.proofs.Building.{accepted, build-declined, build-accepted}
 use Rattle.chart.proofs.Chart.build.Statement.{statement}

@@ -1,12 +1,11 @@
 -- `chart::rejection::after_round` meets its contract.
-use mathlib.Core.Path.{_≡_, sym, ap, _∙_}
+use mathlib.Core.Path.{_≡_, sym, ap}
 use native.Mathlib.Omega.{arith}
 use borrow.Author.Needs.{needs}
 use lib.ListN.{length, take}
 use lib.Seq.{length-take-le}
 use Rattle.guide.specs.Limits as guide
 use Rattle.guide.specs.Limits.{limitsOf}
-use Rattle.chart.specs.Rejection.{Holds}
 use Rattle.chart.proofs.Rounds.{round-is}
 use Rattle.chart.proofs.rejection.after_round.Statement.{statement}
 use Rattle.chart.proofs.rejection.after_round.Tie as tie
