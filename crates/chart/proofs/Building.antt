@@ -56,7 +56,8 @@ module _ (kind : ℕ) (ws : List ℤ) where
   passed true true false n x e z = absurd (omega arith)
   passed true true true n x e z = (refl, refl)
 
-  pub accepted : (n : ℕ) → n ≡ buildRefusal kind ws → n ≡ 0 → (building kind ws ≡ builtFrom kind (rejection kind ws)) × (length ws ≤ baseMost)
+  pub accepted : (n : ℕ) → n ≡ buildRefusal kind ws → n ≡ 0
+      → (building kind ws ≡ builtFrom kind (rejection kind ws)) × (length ws ≤ baseMost)
   unfolding buildRefusal building isEnough
   accepted n e z =
       let p = passed (isKind kind) (isEnough ws) (allInRange kind ws) n (builtFrom kind (rejection kind ws)) e z in
@@ -77,7 +78,8 @@ state-of-chart s =
     }
 
 -- a fresh chart stands for the fresh state
-pub fresh-is : (kind : ℕ) (ws base : List ℤ) (n : ℕ) → base ≡ pad (pos 0) baseMost ws → n ≡ length ws → freshChart kind base n ≡ chartOf (fresh kind ws)
+pub fresh-is : (kind : ℕ) (ws base : List ℤ) (n : ℕ) → base ≡ pad (pos 0) baseMost ws → n ≡ length ws
+    → freshChart kind base n ≡ chartOf (fresh kind ws)
 unfolding freshChart chartOf fresh pad
 fresh-is kind ws base n p q = rw (p, q)
 

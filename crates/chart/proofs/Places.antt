@@ -15,7 +15,8 @@ module _ {ℓ} {A : Type ℓ} (filler : A) (size : ℕ) where
   take-pad l n e = take-at l (replicate (size - length l) filler) n (sym e)
 
   -- the next element goes to the first place that is not used
-  pub pad-snoc : (l : List A) (a : A) (n : ℕ) → n ≡ length l → length l < size → set (pad filler size l) n a ≡ pad filler size (l ++ (a ∷ []))
+  pub pad-snoc : (l : List A) (a : A) (n : ℕ) → n ≡ length l → length l < size
+      → set (pad filler size l) n a ≡ pad filler size (l ++ (a ∷ []))
   unfolding pad
   pad-snoc l a n e h =
       let f : size - length l ≡ suc (size - length (l ++ (a ∷ []))) = omega (arith, length-append l (a ∷ [])) in

@@ -14,9 +14,10 @@ use Rattle.guide.specs.Limits.{Limits, limitsOf, beyondControl}
 use Rattle.guide.specs.Rejection.{without, afterRound, RejectionAnswer}
 use Rattle.guide.proofs.Rejection.{choose-shorter, round-shorter, round-whole, rejection-ends, rejection-goes-on, rejection-counts}
 use Rattle.guide.proofs.Rejection.{rejection-rounds}
+use Rattle.chart.specs.declared.rejection.Standing.{Standing}
 use Rattle.chart.specs.declared.rejection.Rejected.{Rejected}
 use Rattle.chart.specs.Pad.{pad}
-use Rattle.chart.specs.Rejection.{unmarked, Rejects}
+use Rattle.chart.specs.Rejection.{unmarked, Holds, Rejects}
 use Rattle.chart.proofs.Places.{take-pad, pad-snoc}
 
 -- ---- the words that are not marked
@@ -39,7 +40,8 @@ unmarked-snoc [] [] m w e = refl
 unmarked-snoc [] (x ∷ ws) m w e = absurd (omega arith)
 unmarked-snoc (n ∷ ms) [] m w e = absurd (omega arith)
 unmarked-snoc (n ∷ ms) (x ∷ ws) m w e =
-    choose-snoc n x (unmarked ms ws) (unmarked (ms ++ (m ∷ [])) (ws ++ (w ∷ []))) (choose m [] (w ∷ [])) (unmarked-snoc ms ws m w (omega arith))
+    let more = unmarked (ms ++ (m ∷ [])) (ws ++ (w ∷ [])) in
+    choose-snoc n x (unmarked ms ws) more (choose m [] (w ∷ [])) (unmarked-snoc ms ws m w (omega arith))
 
 -- marked by a test, they are the words without those that pass it
 pub unmarked-by : (test : ℤ → Bool) (ws : List ℤ) → unmarked (map test ws) ws ≡ without test ws
@@ -47,29 +49,37 @@ unfolding unmarked without
 unmarked-by test [] = refl
 unmarked-by test (w ∷ ws) = ap (λ (x : List ℤ). choose (test w) x (w ∷ x)) (unmarked-by test ws)
 
--- a turn of the loop that moves the words together: j words stand in the places a after i of them were looked at
-module _ (ms : List Bool) (ws : List ℤ) (i j : ℕ) (a : List ℤ) (im : i < length ms) (iw : i < length ws) (few : length ws ≤ baseMost)
-    (count : j ≡ length (unmarked (take i ms) (take i ws))) (places : a ≡ pad (pos 0) baseMost (unmarked (take i ms) (take i ws))) where
+-- a turn of the loop that moves the words together: n words stand in the places a after i were looked at
+abbrev pub Moved : List Bool → List ℤ → ℕ → List ℤ → ℕ → Type 0
+Moved ms ws i a n = Holds (unmarked (take i ms) (take i ws)) (record { words = a; n = n })
+
+module _ (ms : List Bool) (ws : List ℤ) (i : ℕ) (a : List ℤ) (n : ℕ) (im : i < length ms) (iw : i < length ws) (few : length ws ≤ baseMost)
+    (h : Moved ms ws i a n) where
   next : (m : Bool) → getD ms i false ≡ m
       → unmarked (take (i + 1) ms) (take (i + 1) ws) ≡ unmarked (take i ms) (take i ws) ++ choose m [] (getD ws i (pos 0) ∷ [])
   next m e =
-      let same : length (take i ms) ≡ length (take i ws) = omega (arith, length-take-le i ms (omega arith), length-take-le i ws (omega arith)) in
-      rw (add-one, take-suc ms i false im, take-suc ws i (pos 0) iw, e) (unmarked-snoc (take i ms) (take i ws) m (getD ws i (pos 0)) same)
+      let lm = length-take-le i ms (omega arith) in
+      let lw = length-take-le i ws (omega arith) in
+      rw (add-one, take-suc ms i false im, take-suc ws i (pos 0) iw, e)
+      (unmarked-snoc (take i ms) (take i ws) m (getD ws i (pos 0)) (lm ∙ sym lw))
 
-  pub moved-few : j ≤ i
-  moved-few = omega (arith, unmarked-few (take i ms) (take i ws), length-take-le i ws (omega arith))
+  pub moved-few : n ≤ i
+  moved-few = omega (arith, h .count, unmarked-few (take i ms) (take i ws), length-take-le i ws (omega arith))
 
-  pub turn-marked : (j′ : ℕ) (a′ : List ℤ) → getD ms i false ≡ true → j′ ≡ j → a′ ≡ a
-      → (j′ ≡ length (unmarked (take (i + 1) ms) (take (i + 1) ws))) × (a′ ≡ pad (pos 0) baseMost (unmarked (take (i + 1) ms) (take (i + 1) ws)))
-  turn-marked j′ a′ t p q = rw (next true t, append-nil) (p ∙ count, q ∙ places)
+  pub turn-marked : (a′ : List ℤ) (n′ : ℕ) → getD ms i false ≡ true → a′ ≡ a → n′ ≡ n → Moved ms ws (i + 1) a′ n′
+  turn-marked a′ n′ t p q = rw (next true t, append-nil) (record { words = p ∙ h .words; count = q ∙ h .count })
 
-  pub turn-kept : (j′ : ℕ) (a′ : List ℤ) → getD ms i false ≡ false → j′ ≡ j + 1 → a′ ≡ set a j (getD ws i (pos 0))
-      → (j′ ≡ length (unmarked (take (i + 1) ms) (take (i + 1) ws))) × (a′ ≡ pad (pos 0) baseMost (unmarked (take (i + 1) ms) (take (i + 1) ws)))
-  turn-kept j′ a′ t p q =
+  pub turn-kept : (a′ : List ℤ) (n′ : ℕ) → getD ms i false ≡ false → a′ ≡ set a n (getD ws i (pos 0)) → n′ ≡ n + 1
+      → Moved ms ws (i + 1) a′ n′
+  turn-kept a′ n′ t p q =
       let w = getD ws i (pos 0) in
       let k = unmarked (take i ms) (take i ws) in
+      let stands = pad-snoc (pos 0) baseMost k w n (h .count) (omega (arith, h .count, moved-few)) in
       rw (next false t)
-      (omega (arith, length-append k (w ∷ [])), q ∙ ap (λ (x : List ℤ). set x j w) places ∙ pad-snoc (pos 0) baseMost k w j count (omega (arith, moved-few)))
+      (record {
+        words = p ∙ ap (λ (x : List ℤ). set x n w) (h .words) ∙ stands;
+        count = omega (arith, h .count, length-append k (w ∷ []));
+      })
 
 -- the words without those marked as beyond their own control limits are what a round leaves
 pub round-is : (kind n : ℕ) (ws : List ℤ) (marks : List Bool) (limits : Limits) → n ≡ length ws → limits ≡ limitsOf kind ws
@@ -81,36 +91,36 @@ round-is kind n ws marks limits count own e =
     ap (take n) e ∙ take-pad false baseMost (map test ws) n (count ∙ sym (length-map ws test)) in
     ap (λ (x : List Bool). unmarked x ws) same ∙ unmarked-by test ws ∙ ap (λ (x : Limits). without (beyondControl x) ws) own
 
--- ---- rejection: a round left m words in the places a
+-- ---- rejection, by what a round left
 
-module _ (kind : ℕ) (ws a : List ℤ) (m : ℕ) (places : a ≡ pad (pos 0) baseMost (afterRound kind ws)) (count : m ≡ length (afterRound kind ws)) where
-  pub rejects-last : m ≡ length ws → Rejects kind ws (record { words = a; n = m; rounds = 1; removed = 0 })
+module _ (kind : ℕ) (ws : List ℤ) (left : Standing) (h : Holds (afterRound kind ws) left) where
+  pub rejects-last : left .n ≡ length ws → Rejects kind ws (record { words = left .words; n = left .n; rounds = 1; removed = 0 })
   rejects-last e =
-      let s = sym count ∙ e in
-      let r = rejection-ends kind ws s in
-      let base = ap (λ (x : RejectionAnswer). x .base) (sym r) in
+      let s = sym (h .count) ∙ e in
+      let r = sym (rejection-ends kind ws s) in
+      let base = ap (λ (x : RejectionAnswer). x .base) r in
       record {
-        words = places ∙ ap (pad (pos 0) baseMost) (round-whole kind ws s .0 ∙ base);
+        words = h .words ∙ ap (pad (pos 0) baseMost) (round-whole kind ws s .0 ∙ base);
         count = e ∙ ap length base;
-        rounds = ap (λ (x : RejectionAnswer). x .rounds) (sym r);
-        removed = ap (λ (x : RejectionAnswer). x .removed) (sym r);
+        rounds = ap (λ (x : RejectionAnswer). x .rounds) r;
+        removed = ap (λ (x : RejectionAnswer). x .removed) r;
       }
 
-  pub fewer : (m ≡ length ws → ⊥) → m < length ws
-  fewer ne = omega (arith, round-shorter kind ws, ne)
+  pub fewer : (left .n ≡ length ws → ⊥) → left .n < length ws
+  fewer ne = omega (arith, h .count, round-shorter kind ws, ne)
 
-  pub rejects-more : (r : Rejected) → (m ≡ length ws → ⊥) → Rejects kind (take m a) r
-      → Rejects kind ws (record { words = r .words; n = r .n; rounds = r .rounds + 1; removed = r .removed + (length ws - m) })
+  pub rejects-more : (r : Rejected) → (left .n ≡ length ws → ⊥) → Rejects kind (take (left .n) (left .words)) r
+      → Rejects kind ws (record { words = r .words; n = r .n; rounds = r .rounds + 1; removed = r .removed + (length ws - left .n) })
   rejects-more r ne k =
-      let e : take m a ≡ afterRound kind ws = ap (take m) places ∙ take-pad (pos 0) baseMost (afterRound kind ws) m count in
-      let k′ : Rejects kind (afterRound kind ws) r = rw e at k in
-      let s = sym (rejection-goes-on kind ws (omega (arith, fewer ne))) in
+      let own = ap (take (left .n)) (h .words) ∙ take-pad (pos 0) baseMost (afterRound kind ws) (left .n) (h .count) in
+      let again : Rejects kind (afterRound kind ws) r = rw own at k in
+      let s = sym (rejection-goes-on kind ws (omega (arith, h .count, fewer ne))) in
       let base = ap (λ (x : RejectionAnswer). x .base) s in
       record {
-        words = k′ .words ∙ ap (pad (pos 0) baseMost) base;
-        count = k′ .count ∙ ap length base;
-        rounds = ap (λ (x : ℕ). x + 1) (k′ .rounds) ∙ ap (λ (x : RejectionAnswer). x .rounds) s;
-        removed = omega (arith, k′ .removed, count, ap (λ (x : RejectionAnswer). x .removed) s);
+        words = again .words ∙ ap (pad (pos 0) baseMost) base;
+        count = again .count ∙ ap length base;
+        rounds = ap (λ (x : ℕ). x + 1) (again .rounds) ∙ ap (λ (x : RejectionAnswer). x .rounds) s;
+        removed = omega (arith, again .removed, h .count, ap (λ (x : RejectionAnswer). x .removed) s);
       }
 
 -- rounds and removals stay small

@@ -89,8 +89,8 @@ module _ (k c d : ℕ) where
   sum-less [] = omega arith
   sum-less (w ∷ ws) = omega (arith, sum-less ws)
 
-v-is : (ws : List ℤ)
-    → Diff (vOf (sumsOf ws)) (length ws * sumBy squareOf ws + 2 * (sumBy up ws * sumBy down ws)) (sumBy up ws * sumBy up ws + sumBy down ws * sumBy down ws)
+v-is : (ws : List ℤ) → let c = sumBy up ws in let d = sumBy down ws in
+    Diff (vOf (sumsOf ws)) (length ws * sumBy squareOf ws + 2 * (c * d)) (c * c + d * d)
 unfolding vOf sumsOf
 v-is ws =
     let q : Diff (sumOfSquares ws) (sumBy squareOf ws) 0 = record { is = squares-are ws ∙ of-pos {n = sumBy squareOf ws} .is } in
@@ -114,7 +114,9 @@ not-negative n k (negsuc j) e = absurd (omega (arith, agree (times (suc n) (of-n
 pub v-natural : (ws : List ℤ) → vOf (sumsOf ws) ≡ pos (natAbs (vOf (sumsOf ws)))
 unfolding vOf sumsOf sumOf sumOfSquares
 v-natural [] = refl
-v-natural (w ∷ ws) = not-negative (length ws) (deviationSquares (sumsOf (w ∷ ws)) (w ∷ ws)) (vOf (sumsOf (w ∷ ws))) (squared-deviations (w ∷ ws))
+v-natural (w ∷ ws) =
+    let all = w ∷ ws in
+    not-negative (length ws) (deviationSquares (sumsOf all) all) (vOf (sumsOf all)) (squared-deviations all)
 
 -- n·V in natural numbers
 pub n-times-v : (ws : List ℤ) → length ws * natAbs (vOf (sumsOf ws)) ≡ deviationSquares (sumsOf ws) ws
@@ -137,13 +139,15 @@ exceeds-squares m ws d =
     exceeds-natural m (sumsOf ws) v d (v-natural ws) ∙ ap (λ (x : ℕ). ltb x (squareOf d * (length ws - 1))) e
 
 -- a word beyond a limit deviates by more than m·S, on whichever side
-pub beyond-exceeds : (m : ℕ) (limits : Limits) (w : ℤ) → beyond m limits w ≡ true → exceeds m (limits .sums) (scaledDeviation (limits .sums) w) ≡ true
+pub beyond-exceeds : (m : ℕ) (limits : Limits) (w : ℤ) → beyond m limits w ≡ true
+    → exceeds m (limits .sums) (scaledDeviation (limits .sums) w) ≡ true
 unfolding beyond beyondUpper beyondLower above below
 beyond-exceeds m limits w t =
-    let s = limits .sums in
+    let d = scaledDeviation (limits .sums) w in
+    let far = exceeds m (limits .sums) d in
     either (beyondUpper m limits w) (beyondLower m limits w) t
-    (λ u. both (ltZ (pos 0) (scaledDeviation s w)) (exceeds m s (scaledDeviation s w)) u .1)
-    (λ l. both (ltZ (scaledDeviation s w) (pos 0)) (exceeds m s (scaledDeviation s w)) (both (hasLower (limits .kind)) (below m s w) l .1) .1)
+    (λ u. both (ltZ (pos 0) d) far u .1)
+    (λ l. both (ltZ d (pos 0)) far (both (hasLower (limits .kind)) (below m (limits .sums) w) l .1) .1)
 
 -- ---- how many words lie beyond m·S
 
@@ -178,4 +182,5 @@ few-beyond m ws test h j e =
     let b = m * m * x + 1 in
     let far : (w : ℤ) → test w ≡ true → m * m * x < squareOf (scaledDeviation s w) * c = λ w t.
     ltb-true (m * m * x) (squareOf (scaledDeviation s w) * c) (sym (exceeds-squares m ws (scaledDeviation s w)) ∙ h w t) in
-    few m j c x (omega (arith, removed-count test (λ w. squareOf (scaledDeviation s w)) b c (λ w t. omega (arith, far w t)) ws, ap (λ (n : ℕ). n * b) e))
+    let count = removed-count test (λ w. squareOf (scaledDeviation s w)) b c (λ w t. omega (arith, far w t)) ws in
+    few m j c x (omega (arith, ap (λ (n : ℕ). n * b) e))

@@ -138,7 +138,8 @@ module _ (kind : ℕ) (P : List ℤ → RejectionAnswer → Type 0)
       by-test (eqb (length (afterRound kind ws)) (length ws))
       (λ t. let e = eqb-true (length (afterRound kind ws)) (length ws) t in rw (rejection-ends kind ws e) (last ws e))
       (λ t.
-      let s : length (afterRound kind ws) < length ws = omega (arith, round-shorter kind ws, eqb-false (length (afterRound kind ws)) (length ws) t) in
+      let ne = eqb-false (length (afterRound kind ws)) (length ws) t in
+      let s : length (afterRound kind ws) < length ws = omega (arith, round-shorter kind ws) in
       rw (rejection-goes-on kind ws s) (more ws (rejection kind (afterRound kind ws)) s (ind-below n (afterRound kind ws) (omega arith))))
 
   pub rejection-ind : (ws : List ℤ) → P ws (rejection kind ws)
@@ -152,7 +153,8 @@ rejection-counts kind =
     rejection-ind kind (λ ws r. r .removed + length (r .base) ≡ length ws) (λ ws e. omega arith) (λ ws r s h. omega arith)
 
 -- there is a round, and each but the last removes a word
-pub rejection-rounds : (kind : ℕ) (ws : List ℤ) → (1 ≤ rejection kind ws .rounds) × (rejection kind ws .rounds ≤ suc (rejection kind ws .removed))
+pub rejection-rounds : (kind : ℕ) (ws : List ℤ)
+    → (1 ≤ rejection kind ws .rounds) × (rejection kind ws .rounds ≤ suc (rejection kind ws .removed))
 rejection-rounds kind =
     rejection-ind kind (λ ws r. (1 ≤ r .rounds) × (r .rounds ≤ suc (r .removed))) (λ ws e. omega arith) (λ ws r s h. omega arith)
 
@@ -163,7 +165,8 @@ rejection-in-order kind =
     (λ ws r s h. in-order-chain h (round-in-order kind ws))
 
 -- no word left is beyond the control limits of the words left
-pub rejection-settles : (kind : ℕ) (ws : List ℤ) → noneOf (beyondControl (limitsOf kind (rejection kind ws .base))) (rejection kind ws .base) ≡ true
+pub rejection-settles : (kind : ℕ) (ws : List ℤ) → let base = rejection kind ws .base in
+    noneOf (beyondControl (limitsOf kind base)) base ≡ true
 rejection-settles kind =
     rejection-ind kind (λ ws r. noneOf (beyondControl (limitsOf kind (r .base))) (r .base) ≡ true) (λ ws e. round-whole kind ws e .1)
     (λ ws r s h. h)

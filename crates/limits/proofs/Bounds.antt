@@ -1,7 +1,7 @@
 -- The sums of at most 32 words of sixteen bits (`OfBase`): what is worked out of them fits 64 bits and is the paper's.
 use mathlib.Core.Path.{_≡_, sym, ap, _∙_}
 use mathlib.Core.Bool.{false}
-use mathlib.Core.List.{List, []}
+use mathlib.Core.List.{List, [], _∷_, _++_}
 use Prim.Native.Nat.{ℕ, _+_, _*_, _-_, _<_, _≤_, _^_}
 use native.Mathlib.Omega.{arith}
 use native.Mathlib.Nat.{mul-le-mul}
@@ -47,7 +47,17 @@ module _ (s : Sums) (b : OfBase s) where
   pub sum-fits : SFits w64 (s .t)
   sum-fits = small-fits (omega (arith, sum-small))
 
--- ---- n·w − T, as the machine works it out
+-- ---- n·w − T and T + w, as the machine works them out
+
+-- a word, cast; T; n·w
+abbrev castWord : ℤ → ℤ
+castWord w = toZ w64 (ofZ w64 (toZ w16 (ofZ w16 w)))
+
+abbrev heldSum : Sums → ℤ
+heldSum s = toZ w64 (ofZ w64 (s .t))
+
+abbrev heldProduct : Sums → ℤ → ℤ
+heldProduct s w = toZ w64 (s .n) *ℤ castWord w
 
 module _ (s : Sums) (b : OfBase s) (w : ℤ) (h : SFits w16 w) where
   product-small : natAbs (pos (s .n) *ℤ w) ≤ 1048576
@@ -56,10 +66,10 @@ module _ (s : Sums) (b : OfBase s) (w : ℤ) (h : SFits w16 w) where
   product-fits : SFits w64 (pos (s .n) *ℤ w)
   product-fits = small-fits (omega (arith, product-small))
 
-  product : toZ w64 (s .n) *ℤ toZ w64 (ofZ w64 (toZ w16 (ofZ w16 w))) ≡ pos (s .n) *ℤ w
+  product : heldProduct s w ≡ pos (s .n) *ℤ w
   product = rw (toZ-pos w64 (s .n) (omega (arith, b .few)), cast-word h)
 
-  pub product-held : SFits w64 (toZ w64 (s .n) *ℤ toZ w64 (ofZ w64 (toZ w16 (ofZ w16 w))))
+  pub product-held : SFits w64 (heldProduct s w)
   product-held = rw product product-fits
 
   pub deviation-small : natAbs (scaledDeviation (sumsSay s) w) ≤ 2097152
@@ -70,35 +80,33 @@ module _ (s : Sums) (b : OfBase s) (w : ℤ) (h : SFits w16 w) where
   deviation-fits : SFits w64 (scaledDeviation (sumsSay s) w)
   deviation-fits = small-fits (omega (arith, deviation-small))
 
-  difference : toZ w64 (ofZ w64 (toZ w64 (s .n) *ℤ toZ w64 (ofZ w64 (toZ w16 (ofZ w16 w))))) -ℤ toZ w64 (ofZ w64 (s .t))
-      ≡ scaledDeviation (sumsSay s) w
+  difference : toZ w64 (ofZ w64 (heldProduct s w)) -ℤ heldSum s ≡ scaledDeviation (sumsSay s) w
   unfolding scaledDeviation
   difference = rw (product, toZ-ofZ product-fits, toZ-ofZ (sum-fits s b))
 
-  pub difference-held : SFits w64 (toZ w64 (ofZ w64 (toZ w64 (s .n) *ℤ toZ w64 (ofZ w64 (toZ w16 (ofZ w16 w))))) -ℤ toZ w64 (ofZ w64 (s .t)))
+  pub difference-held : SFits w64 (toZ w64 (ofZ w64 (heldProduct s w)) -ℤ heldSum s)
   difference-held = rw difference deviation-fits
 
-  pub deviation-is : toZ w64 (ofZ w64 (toZ w64 (ofZ w64 (toZ w64 (s .n) *ℤ toZ w64 (ofZ w64 (toZ w16 (ofZ w16 w))))) -ℤ toZ w64 (ofZ w64 (s .t))))
-      ≡ scaledDeviation (sumsSay s) w
+  pub deviation-is : toZ w64 (ofZ w64 (toZ w64 (ofZ w64 (heldProduct s w)) -ℤ heldSum s)) ≡ scaledDeviation (sumsSay s) w
   deviation-is = rw (difference, toZ-ofZ deviation-fits)
 
-  -- T + w
   sum-with-fits : SFits w64 (s .t +ℤ w)
   sum-with-fits = small-fits (omega (arith, sum-small s b, word-small h, magnitude-plus (s .t) w))
 
-  sum-with : toZ w64 (ofZ w64 (s .t)) +ℤ toZ w64 (ofZ w64 (toZ w16 (ofZ w16 w))) ≡ s .t +ℤ w
+  sum-with : heldSum s +ℤ castWord w ≡ s .t +ℤ w
   sum-with = rw (toZ-ofZ (sum-fits s b), cast-word h)
 
-  pub sum-with-held : SFits w64 (toZ w64 (ofZ w64 (s .t)) +ℤ toZ w64 (ofZ w64 (toZ w16 (ofZ w16 w))))
+  pub sum-with-held : SFits w64 (heldSum s +ℤ castWord w)
   sum-with-held = rw sum-with sum-with-fits
 
-  pub sum-with-is : toZ w64 (ofZ w64 (toZ w64 (ofZ w64 (s .t)) +ℤ toZ w64 (ofZ w64 (toZ w16 (ofZ w16 w))))) ≡ s .t +ℤ w
+  pub sum-with-is : toZ w64 (ofZ w64 (heldSum s +ℤ castWord w)) ≡ s .t +ℤ w
   sum-with-is = rw (sum-with, toZ-ofZ sum-with-fits)
 
 -- ---- the sums of some words
 
 -- V of some words is not negative
-of-base : (s : Sums) (ws : List ℤ) → sumsSay s ≡ sumsOf ws → s .n ≤ baseMost → natAbs (s .t) ≤ 32768 * s .n → s .q ≤ 1073741824 * s .n → OfBase s
+of-base : (s : Sums) (ws : List ℤ) → sumsSay s ≡ sumsOf ws → s .n ≤ baseMost
+    → natAbs (s .t) ≤ 32768 * s .n → s .q ≤ 1073741824 * s .n → OfBase s
 unfolding vOf
 of-base s ws e few sum squares =
     let k = natAbs (vOf (sumsOf ws)) in
@@ -134,8 +142,9 @@ of-one-more s r ws i h fit e b few f =
     let small = word-small fit in
     let more : sumsSay r ≡ withWord (sumsSay s) w =
     λ j. record { n = g .0 j; t = g .1 j; q = (ap pos (g .2) ∙ ap (λ (z : ℤ). pos (s .q) +ℤ z) (sym (square-magnitude w))) j } in
+    let next : take i ws ++ (w ∷ []) ≡ take (i + 1) ws = sym (rw (add-one, take-suc ws i (pos 0))) in
     let all : sumsSay r ≡ sumsOf (take (i + 1) ws) =
-    more ∙ ap (λ (x : guide.Sums). withWord x w) e ∙ sym (sums-snoc (take i ws) w) ∙ ap sumsOf (sym (rw (add-one, take-suc ws i (pos 0)))) in (
+    more ∙ ap (λ (x : guide.Sums). withWord x w) e ∙ sym (sums-snoc (take i ws) w) ∙ ap sumsOf next in (
       all,
       of-base r (take (i + 1) ws) all (omega arith)
           (omega (arith, b .sum, ap natAbs (g .1), magnitude-plus (s .t) w))
@@ -176,17 +185,20 @@ module _ (m : ℕ) (s : Sums) (d : ℤ) (k : Comparable m s d) where
       let h : s .n - 1 ≤ 31 = omega (arith, k .base .few) in
       omega (arith, mul-le-mul (square-small a e) h)
 
-pub comparable : (m : ℕ) (s : Sums) (d : ℤ) → m < 256 → OfBase s → natAbs d ≤ 2097152 → Comparable m s d
+comparable : (m : ℕ) (s : Sums) (d : ℤ) → m < 256 → OfBase s → natAbs d ≤ 2097152 → Comparable m s d
 comparable m s d h b k =
     let p : m ≤ 255 = omega arith in
     record { base = b; limit = omega (arith, mul-le-mul (mul-le-mul p p) (mul-le-mul (b .few) (v-small s b))); near = omega arith }
 
 -- ---- a word's deviation, as the machine holds it
 
-module _ (m : ℕ) (s : Sums) (w r : ℤ) (few : m < 256) (b : OfBase s) (h : SFits w16 w)
-    (e : r ≡ scaledDeviation (sumsSay s) (toZ w16 (ofZ w16 w))) (k : natAbs r ≤ 2097152) where
-  pub deviation-held : toZ w64 (ofZ w64 r) ≡ scaledDeviation (sumsSay s) w
-  deviation-held = toZ-ofZ (small-fits (omega (arith, k))) ∙ e ∙ ap (scaledDeviation (sumsSay s)) (toZ-ofZ h)
+pub record HeldDeviation (m : ℕ) (s : Sums) (w r : ℤ) : Type 0 where
+  pub is : toZ w64 (ofZ w64 r) ≡ scaledDeviation (sumsSay s) w
+  pub comparable : Comparable m s (toZ w64 (ofZ w64 r))
 
-  pub held-comparable : Comparable m s (toZ w64 (ofZ w64 r))
-  held-comparable = rw deviation-held (comparable m s (scaledDeviation (sumsSay s) w) few b (deviation-small s b w h))
+pub held-deviation : (m : ℕ) (s : Sums) (w r : ℤ) → m < 256 → OfBase s → SFits w16 w
+    → r ≡ scaledDeviation (sumsSay s) (toZ w16 (ofZ w16 w)) → natAbs r ≤ 2097152 → HeldDeviation m s w r
+held-deviation m s w r few b h e k =
+    let held : toZ w64 (ofZ w64 r) ≡ scaledDeviation (sumsSay s) w =
+    toZ-ofZ (small-fits (omega (arith, k))) ∙ e ∙ ap (scaledDeviation (sumsSay s)) (toZ-ofZ h) in
+    record { is = held; comparable = rw held (comparable m s (scaledDeviation (sumsSay s) w) few b (deviation-small s b w h)) }

@@ -27,6 +27,7 @@ complement (negsuc n) h t =
     record { is = ap (toZ w64) e ∙ toZ-pos w64 n m ∙ ap pos (sym f); some = omega arith; fits = omega arith }
 
 -- a number that is not negative is its own absolute value, and can be cast
-pub natural : (z : ℤ) → SFits w64 z → ltZ (toZ w64 (ofZ w64 z)) (pos 0) ≡ false → T (nonNeg (toZ w64 (ofZ w64 z))) × Fits w64 (natAbs (toZ w64 (ofZ w64 z)))
+pub natural : (z : ℤ) → SFits w64 z → ltZ (toZ w64 (ofZ w64 z)) (pos 0) ≡ false
+    → T (nonNeg (toZ w64 (ofZ w64 z))) × Fits w64 (natAbs (toZ w64 (ofZ w64 z)))
 natural (pos n) h t = rw (toZ-ofZ h) (tt, omega (arith, h))
 natural (negsuc n) h t = let u : true ≡ false = rw (toZ-ofZ h) at t in absurd (let z : _≡_ {A = ℕ} 0 1 = cc in omega arith)

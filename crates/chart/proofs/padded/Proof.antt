@@ -48,7 +48,8 @@ loop-again c =
     let l = c .before .before .loop in
     let words = now (c .before .before .before .args .words) in (
       omega arith,
-      rw (toZ-ofZ {w = w16} (sfits-of (c .w .given)), l .inv .1) (pad-next (pos 0) baseMost words (l .i) (pos 0) (c .before .loop-test .taken) (omega arith)),
+      rw (toZ-ofZ {w = w16} (sfits-of (c .w .given)), l .inv .1)
+          (pad-next (pos 0) baseMost words (l .i) (pos 0) (c .before .loop-test .taken) (omega arith)),
     )
 
 returns : tie.Need-returns Inv-loop μ-loop

@@ -38,7 +38,10 @@ returns c =
     let start = called .before .before .before in
     let says : formedSays (called .word .result) ≡ wordAlone (start .args .kind) (start .args .a) (start .args .b) (start .args .c) =
     rw (toZ-ofZ (start .fits .a), toZ-ofZ (start .fits .b), toZ-ofZ (start .fits .c)) at (called .word .ensures) in
-    ⊎-elim (λ v. ap formedSays (v .4 ∙ sym (v .1 .given .1)) ∙ says) (λ v. ap formedSays (v .4 ∙ sym (v .1 .given .1)) ∙ says) (c .before .before .match .came)
+    ⊎-elim
+    (λ v. ap formedSays (v .4 ∙ sym (v .1 .given .1)) ∙ says)
+    (λ v. ap formedSays (v .4 ∙ sym (v .1 .given .1)) ∙ says)
+    (c .before .before .match .came)
 
 pub show-word-spec : {M : Type 1} → statement M
 show-word-spec =

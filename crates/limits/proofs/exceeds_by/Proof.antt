@@ -23,7 +23,10 @@ v-of-requires : tie.Need-v-of-requires
 v-of-requires c κs = search needs
 
 mul-result : tie.Need-mul-result
-mul-result c = let h : c .before .before .before .args .m ≤ 65535 = omega (arith, c .before .before .before .fits .m) in omega (arith, mul-le-mul h h)
+mul-result c =
+    let a = c .before .before .before in
+    let h : a .args .m ≤ 65535 = omega (arith, a .fits .m) in
+    omega (arith, mul-le-mul h h)
 
 mul-result-2 : tie.Need-mul-result-2
 mul-result-2 c =

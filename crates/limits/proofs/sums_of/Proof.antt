@@ -33,7 +33,8 @@ passed : (c : tie.In-loop Inv-loop μ-loop) → c .before .loop .s .n < baseMost
 passed c =
     let l = c .before .loop in
     let words = now (c .before .before .args .words) in
-    omega (arith, count-is (l .s) (take (l .i) words) (l .inv .1), length-take-le (l .i) words (l .inv .0), c .before .before .pre, c .loop-test .taken)
+    let count = count-is (l .s) (take (l .i) words) (l .inv .1) in
+    omega (arith, length-take-le (l .i) words (l .inv .0), c .before .before .pre, c .loop-test .taken)
 
 with-word-requires : tie.Need-with-word-requires Inv-loop μ-loop
 with-word-requires c κs = (passed (c .before), c .before .before .loop .inv .2)

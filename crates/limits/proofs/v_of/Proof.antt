@@ -10,7 +10,8 @@ use Rattle.limits.proofs.v_of.Statement.{statement}
 use Rattle.limits.proofs.v_of.Tie as tie
 
 -- the sum's square, as the call gave it
-square : (c : tie.After-magnitude) → c .magnitude .result * c .magnitude .result ≡ natAbs (c .before .before .args .s .t) * natAbs (c .before .before .args .s .t)
+square : (c : tie.After-magnitude) → let t = c .before .before .args .s .t in
+    c .magnitude .result * c .magnitude .result ≡ natAbs t * natAbs t
 square c =
     let a = c .before .before in
     ap (λ (x : ℕ). x * x) (c .magnitude .ensures ∙ ap natAbs (toZ-ofZ (sum-fits (a .args .s) (a .pre))))

@@ -18,7 +18,8 @@ returns : tie.Need-returns
 returns c =
     let start = c .before .before .before in
     let number = c .before .before .build-refusal in
-    build-declined (start .args .kind) (now (start .args .words)) (number .result) (c .zeros .result) (number .ensures) (c .before .if1 .taken)
+    build-declined (start .args .kind) (now (start .args .words)) (number .result) (c .zeros .result)
+    (number .ensures) (c .before .if1 .taken)
     (c .zeros .ensures)
 
 -- as many words as a base has places
@@ -43,7 +44,8 @@ returns-2 c =
     let padded = reject .before in
     let start = padded .before .before .before in
     let number = padded .before .before .build-refusal in
-    build-accepted (start .args .kind) (now (start .args .words)) (padded .padded .result) (number .result) (c .fresh .result) (reject .reject .result)
+    build-accepted (start .args .kind) (now (start .args .words)) (padded .padded .result) (number .result)
+    (c .fresh .result) (reject .reject .result)
     (number .ensures) (padded .before .if1 .left) (padded .padded .ensures) (reject .reject .ensures) (c .fresh .ensures)
 
 pub build-spec : {M : Type 1} → statement M

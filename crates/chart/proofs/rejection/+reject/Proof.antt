@@ -25,43 +25,46 @@ reject-at t = and 0 reject-kinds.ps (is 0 reject-kinds.ps μ-reject t) reject.Pr
 abbrev reject-below : ℕ → In 0 reject-kinds.ps
 reject-below t = and 0 reject-kinds.ps (falls 0 reject-kinds.ps _<_ μ-reject t) reject.Pre
 
+-- what the calls ask and give: a round, and rejection of fewer words
+abbrev claims : ℕ → reject-lts.Claims
+claims t = (after-round-reads.Asked, after-round-reads.Learnt, reject-below t, reject.Post)
+
 module _ (t : ℕ) where
   -- the words given, and how many they are
-  abbrev words : reject-lts.Start (after-round-reads.Asked, after-round-reads.Learnt, reject-below t, reject.Post) (reject-at t) reject.Post → List ℤ
+  abbrev words : reject-lts.Start (claims t) (reject-at t) reject.Post → List ℤ
   words c = take (c .args .n) (c .args .words)
 
-  count : (c : reject-lts.Start (after-round-reads.Asked, after-round-reads.Learnt, reject-below t, reject.Post) (reject-at t) reject.Post) → length (words c) ≡ c .args .n
+  count : (c : reject-lts.Start (claims t) (reject-at t) reject.Post) → length (words c) ≡ c .args .n
   count c = length-take-le (c .args .n) (c .args .words) (omega (arith, c .good .1 .0 .1 .0 .1))
 
-  after-round-requires : reject-lts.Need-after-round-requires (after-round-reads.Asked, after-round-reads.Learnt, reject-below t, reject.Post) (reject-at t) reject.Post
+  after-round-requires : reject-lts.Need-after-round-requires (claims t) (reject-at t) reject.Post
   after-round-requires c κs = c .pre .1
 
-  returns : reject-lts.Need-returns (after-round-reads.Asked, after-round-reads.Learnt, reject-below t, reject.Post) (reject-at t) reject.Post
+  returns : reject-lts.Need-returns (claims t) (reject-at t) reject.Post
   returns c =
       let start = c .before .before .before in
       let round = c .before .before .after-round in
-      rejects-last (start .args .kind) (words start) (round .result .words) (round .result .n) (round .ensures .words) (round .ensures .count)
-      (c .if1 .taken ∙ sym (count start))
+      rejects-last (start .args .kind) (words start) (round .result) (round .ensures) (c .if1 .taken ∙ sym (count start))
 
   -- the round left fewer words
-  left-fewer : (c : reject-lts.Else1 (after-round-reads.Asked, after-round-reads.Learnt, reject-below t, reject.Post) (reject-at t) reject.Post) → c .before .before .after-round .result .n < c .before .before .before .args .n
+  left-fewer : (c : reject-lts.Else1 (claims t) (reject-at t) reject.Post)
+      → c .before .before .after-round .result .n < c .before .before .before .args .n
   left-fewer c =
       let start = c .before .before .before in
       let round = c .before .before .after-round in
       omega (
         arith,
         count start,
-        fewer (start .args .kind) (words start) (round .result .words) (round .result .n) (round .ensures .words)
-            (round .ensures .count) (λ e. c .if1 .left (e ∙ count start)),
+        fewer (start .args .kind) (words start) (round .result) (round .ensures) (λ e. c .if1 .left (e ∙ count start)),
       )
 
-  reject-requires : reject-lts.Need-reject-requires (after-round-reads.Asked, after-round-reads.Learnt, reject-below t, reject.Post) (reject-at t) reject.Post
+  reject-requires : reject-lts.Need-reject-requires (claims t) (reject-at t) reject.Post
   reject-requires c κs =
       let start = c .before .before .before in
       (omega (arith, left-fewer c, start .pre .0), omega (arith, left-fewer c, start .pre .1))
 
   -- the rounds and removals after it are few
-  small : (c : reject-lts.After-reject (after-round-reads.Asked, after-round-reads.Learnt, reject-below t, reject.Post) (reject-at t) reject.Post)
+  small : (c : reject-lts.After-reject (claims t) (reject-at t) reject.Post)
       → (c .reject .result .rounds ≤ 33) × (c .reject .result .removed ≤ 32)
   small c =
       let m = c .before .before .before .after-round .result .n in
@@ -72,28 +75,28 @@ module _ (t : ℕ) where
         omega (arith, few .1, length-take m rest, left-fewer (c .before), start .pre .1),
       )
 
-  add-t10 : reject-lts.Need-add-t10 (after-round-reads.Asked, after-round-reads.Learnt, reject-below t, reject.Post) (reject-at t) reject.Post
+  add-t10 : reject-lts.Need-add-t10 (claims t) (reject-at t) reject.Post
   add-t10 c = omega (arith, small (c .before .before) .0)
 
-  sub-t11 : reject-lts.Need-sub-t11 (after-round-reads.Asked, after-round-reads.Learnt, reject-below t, reject.Post) (reject-at t) reject.Post
+  sub-t11 : reject-lts.Need-sub-t11 (claims t) (reject-at t) reject.Post
   sub-t11 c = omega (arith, left-fewer (c .before .before .before))
 
-  add-t12 : reject-lts.Need-add-t12 (after-round-reads.Asked, after-round-reads.Learnt, reject-below t, reject.Post) (reject-at t) reject.Post
+  add-t12 : reject-lts.Need-add-t12 (claims t) (reject-at t) reject.Post
   add-t12 c =
       let start = c .before .before .before .before .before .before .before in
       omega (arith, small (c .before .before .before) .1, start .pre .1)
 
-  returns-2 : reject-lts.Need-returns-2 (after-round-reads.Asked, after-round-reads.Learnt, reject-below t, reject.Post) (reject-at t) reject.Post
+  returns-2 : reject-lts.Need-returns-2 (claims t) (reject-at t) reject.Post
   returns-2 c =
       let again = c .before .before .before in
       let start = again .before .before .before .before in
       let round = again .before .before .before .after-round in
-      let more = rejects-more (start .args .kind) (words start) (round .result .words) (round .result .n) (round .ensures .words)
-      (round .ensures .count) (again .reject .result) (λ e. again .before .if1 .left (e ∙ count start)) (again .reject .ensures) in
+      let more = rejects-more (start .args .kind) (words start) (round .result) (round .ensures)
+      (again .reject .result) (λ e. again .before .if1 .left (e ∙ count start)) (again .reject .ensures) in
       rw (count start) at more
 
 pub +reject-spec : {M : Type 1} → statement M
-+reject-spec = close μ-reject λ t. reject-lts.spec (after-round-reads.Asked, after-round-reads.Learnt, reject-below t, reject.Post) (reject-at t) reject.Post
++reject-spec = close μ-reject λ t. reject-lts.spec (claims t) (reject-at t) reject.Post
     (after-round-requires t)
     (returns t)
     (reject-requires t)

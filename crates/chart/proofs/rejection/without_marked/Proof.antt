@@ -6,7 +6,7 @@ use Prim.Native.Nat.{_-_, _≤_, _<_, _^_}
 use native.Mathlib.Omega.{arith}
 use borrow.Author.Needs.{needs, sfits-of}
 use borrow.Author.Tests.{not-true, not-false}
-use lib.ListN.{length, take, set, getD}
+use lib.ListN.{length, set, getD}
 use lib.IntN.{pos}
 use lib.Signed.{mag}
 use mir.Syntax.{w16}
@@ -15,20 +15,20 @@ use mir.Facts.{toZ-ofZ}
 use Rattle.guide.specs.Sizes.{baseMost}
 use Rattle.chart.specs.Pad.{pad}
 use Rattle.chart.specs.Rejection.{unmarked}
-use Rattle.chart.proofs.Rounds.{moved-few, turn-marked, turn-kept}
+use Rattle.chart.proofs.Rounds.{Moved, moved-few, turn-marked, turn-kept}
 use Rattle.chart.proofs.rejection.without_marked.Statement.{statement}
 use Rattle.chart.proofs.rejection.without_marked.Tie as tie
 
 abbrev Inv-loop : tie.InvT-loop
 Inv-loop n words marks left₀ j₀ i₀ left j i =
-    (i ≤ n) × (j ≡ length (unmarked (take i marks) (take i words))) × (left ≡ pad (pos 0) baseMost (unmarked (take i marks) (take i words)))
+    (i ≤ n) × Moved marks words i left j
 
 abbrev μ-loop : tie.MeasureT-loop
 μ-loop n words marks left₀ j₀ i₀ left j i = n - i
 
 loop-holds : tie.Need-loop-holds Inv-loop μ-loop
 unfolding pad unmarked
-loop-holds c = (omega arith, refl, refl)
+loop-holds c = (omega arith, record { words = refl; count = refl })
 
 array-read-if1 : tie.Need-array-read-if1 Inv-loop μ-loop
 array-read-if1 c = omega arith
@@ -50,8 +50,8 @@ few : (c : tie.In-loop Inv-loop μ-loop) → c .before .loop .j ≤ c .before .l
 few c =
     let start = c .before .before in
     let l = c .before .loop in
-    moved-few (start .args .t3) (start .args .t1) (l .i) (l .j) (l .left)
-    (omega (arith, marks-all start)) (omega (arith, words-all start)) (omega (arith, words-all start)) (l .inv .1) (l .inv .2)
+    moved-few (start .args .t3) (start .args .t1) (l .i) (l .left) (l .j)
+    (omega (arith, marks-all start)) (omega (arith, words-all start)) (omega (arith, words-all start)) (l .inv .1)
 
 mul-left : tie.Need-mul-left Inv-loop μ-loop
 mul-left c = omega (arith, few (c .before .before))
@@ -80,19 +80,19 @@ loop-again c =
     let word = getD words (l .i) (pos 0) in
     let held : mag word < 2 ^ 15 → toZ w16 (ofZ w16 word) ≡ word = λ h. toZ-ofZ (sfits-of h) in
     let turn = ⊎-elim
-    (λ v. turn-kept marks words (l .i) (l .j) (l .left) im iw all (l .inv .1) (l .inv .2) (c .if1 .j) (c .if1 .left)
-    (not-true (getD marks (l .i) false) (v .0 .taken)) (v .3) (v .2 ∙ ap (set (l .left) (l .j)) (held (v .1 .given))))
-    (λ v. turn-marked marks words (l .i) (l .j) (l .left) im iw all (l .inv .1) (l .inv .2) (c .if1 .j) (c .if1 .left)
-    (not-false (getD marks (l .i) false) (v .0 .left)) (v .2) (v .1))
+    (λ v. turn-kept marks words (l .i) (l .left) (l .j) im iw all (l .inv .1) (c .if1 .left) (c .if1 .j)
+    (not-true (getD marks (l .i) false) (v .0 .taken)) (v .2 ∙ ap (set (l .left) (l .j)) (held (v .1 .given))) (v .3))
+    (λ v. turn-marked marks words (l .i) (l .left) (l .j) im iw all (l .inv .1) (c .if1 .left) (c .if1 .j)
+    (not-false (getD marks (l .i) false) (v .0 .left)) (v .1) (v .2))
     (c .if1 .came) in
-    (omega arith, turn .0, turn .1)
+    (omega arith, turn)
 
 returns : tie.Need-returns Inv-loop μ-loop
 returns c =
     let l = c .before .loop in
     let start = c .before .before in
     let e : l .i ≡ start .args .n = omega arith in
-    record { words = rw (← e) (l .inv .2); count = rw (← e) (l .inv .1) }
+    rw (← e) (l .inv .1)
 
 pub without-marked-spec : {M : Type 1} → statement M
 without-marked-spec =
