@@ -5,10 +5,11 @@ use mathlib.Core.Bool.{Bool, true, false, cond}
 use Prim.Native.Nat.{ℕ, zero, suc, _+_, _*_, _-_, _<_, _≤_, _^_}
 use native.Mathlib.Omega.{arith}
 use lib.Dec.{ltb}
+use lib.Signed.{ltZ}
 use lib.IntN.{ℤ, pos, negsuc, natAbs, subℕ, negℤ, _+ℤ_, _-ℤ_, _*ℤ_}
 use mir.Syntax.{Width}
 use mir.Val.{SFits, hbits}
-use borrow.Author.Tests.{ltb-true, ltb-false}
+use borrow.Author.Tests.{ltb-true, ltb-false, lt-ltb, le-ltb}
 
 -- how far apart two naturals are
 abbrev pub distance : ℕ → ℕ → ℕ
@@ -72,6 +73,20 @@ distance-square a b =
 sub-magnitude : (a b : ℕ) → natAbs (subℕ a b) ≡ distance a b
 sub-magnitude a b = sub-cases a b (λ z. natAbs z ≡ distance a b) (λ k p. omega arith) (λ k p. omega arith)
 
+-- ---- the sign of a difference
+
+same-test : (a b c d : ℕ) → (a < b → c < d) → (b ≤ a → d ≤ c) → ltb a b ≡ ltb c d
+same-test a b c d f g =
+    sub-cases a b (λ z. ltb a b ≡ ltb c d)
+    (λ k p. le-ltb a b (omega arith) ∙ sym (le-ltb c d (g (omega arith))))
+    (λ k p. lt-ltb a b (omega arith) ∙ sym (lt-ltb c d (f (omega arith))))
+
+sub-below : (a b : ℕ) → ltZ (subℕ a b) (pos 0) ≡ ltb a b
+sub-below a b =
+    sub-cases a b (λ z. ltZ z (pos 0) ≡ ltb a b)
+    (λ k p. le-ltb k 0 (omega arith) ∙ sym (le-ltb a b (omega arith)))
+    (λ k p. sym (lt-ltb a b (omega arith)))
+
 -- ---- z is a − b
 
 pub record Diff (z : ℤ) (a b : ℕ) : Type 0 where
@@ -134,6 +149,10 @@ squared {z} {a} {b} p =
 
 pub is-pos : {z : ℤ} {a b : ℕ} (k : ℕ) → Diff z a b → a ≡ b + k → z ≡ pos k
 is-pos {a = a} {b = b} k p e = p .is ∙ sub-pos a b k e
+
+-- z is below 0 where c is below d, whichever differences the two are
+pub is-below : {z : ℤ} {a b : ℕ} → Diff z a b → (c d : ℕ) → (a < b → c < d) → (b ≤ a → d ≤ c) → ltZ z (pos 0) ≡ ltb c d
+is-below {a = a} {b = b} p c d f g = ap (λ (x : ℤ). ltZ x (pos 0)) (p .is) ∙ sub-below a b ∙ same-test a b c d f g
 
 pub equal : {z y : ℤ} {a b c d : ℕ} → Diff z a b → Diff y c d → a + d ≡ c + b → z ≡ y
 equal {c = c} {d = d} p q e = recast c d p e .is ∙ sym (q .is)

@@ -6,14 +6,15 @@ use native.Mathlib.Nat.{div-add-mod', div-eq-of-lt-le, mod-lt}
 use native.Mathlib.Omega.{arith}
 use lib.Dec.{T, ltb, leb, eqb}
 use lib.IntN.{ℤ, pos, negsuc, natAbs, negℤ, _-ℤ_, _*ℤ_}
-use lib.Signed.{nonNeg, leZ}
+use lib.Signed.{nonNeg, ltZ, leZ}
 use mir.Syntax.{w16}
 use mir.Val.{SFits}
-use borrow.Author.Tests.{leb-true, ltb-true, ltb-false, eq-eqb, ne-eqb}
+use borrow.Author.Tests.{leb-true, le-ltb, eq-eqb, ne-eqb}
 use Rattle.guide.specs.Kind.{byKind, ignoresThird, inRange}
 use Rattle.guide.specs.Word.{isReading, areReadings, numerator, divisor, nearestNatural, nearest}
 use Rattle.guide.proofs.Booleans.{both, by-test}
-use Rattle.guide.proofs.Integers.{distance, of-pos, minus, negated, times, equal, magnitude}
+use Rattle.guide.proofs.Integers.{distance, of-pos, minus, times, magnitude, magnitude-times, is-below}
+use Rattle.words.specs.declared.Quotient.{Quotient}
 use Rattle.words.specs.Formed.{signed, ReadingIs, IsQuotient}
 
 -- ---- readings
@@ -39,23 +40,32 @@ all-readings kind a b c h =
 
 -- ---- the quotient of each kind, of natural numbers
 
+-- the sign and the size of an integer give it again
+signed-is : (z : ℤ) → signed (ltZ z (pos 0)) (natAbs z) ≡ z
+signed-is (pos n) = rw (le-ltb n 0 (omega arith))
+signed-is (negsuc n) = refl
+
+pub numerator-is : (kind : ℕ) (a b c : ℤ) (q : Quotient) → IsQuotient kind a b c q
+    → signed (q .negative) (q .numerator) ≡ numerator kind a b c
+numerator-is kind a b c q h = rw (h .is-sign, h .is-size) (signed-is (numerator kind a b c))
+
+not-below : (n : ℕ) → false ≡ ltZ (pos n) (pos 0)
+not-below n = sym (le-ltb n 0 (omega arith))
+
 distance-is : (x y : ℕ) → natAbs (pos x -ℤ pos y) ≡ distance x y
 distance-is x y = omega (arith, magnitude (minus (of-pos {n = x}) (of-pos {n = y})))
 
-signed-distance : (x y : ℕ) → signed (ltb x y) (10000 * distance x y) ≡ pos 10000 *ℤ (pos x -ℤ pos y)
-signed-distance x y =
-    let product = times 10000 (minus (of-pos {n = x}) (of-pos {n = y})) in
-    let size = of-pos {n = 10000 * distance x y} in
-    by-test (ltb x y)
-    (λ t. rw t (equal (negated size) product (omega (arith, ltb-true x y t))))
-    (λ t. rw t (equal size product (omega (arith, ltb-false x y t))))
+difference-below : (x y : ℕ) → ltb x y ≡ ltZ (pos 10000 *ℤ (pos x -ℤ pos y)) (pos 0)
+difference-below x y =
+    sym (is-below (times 10000 (minus (of-pos {n = x}) (of-pos {n = y}))) x y (λ h. omega arith) (λ h. omega arith))
 
 module _ {kind x y : ℕ} {a b c : ℤ} (first : ReadingIs a x) (second : ReadingIs b y) where
   pub duplicate-quotient : {d : ℕ} → kind ≡ 1 → d ≡ distance x y
       → IsQuotient kind a b c (record { negative = false; numerator = 20000 * d; divisor = x + y })
   unfolding numerator divisor
   duplicate-quotient {d} one e = record {
-    is-numerator = rw (eq-eqb kind 1 one, ← first .same, ← second .same, distance-is x y, e);
+    is-sign = rw (eq-eqb kind 1 one) (not-below (20000 * natAbs (a -ℤ b)));
+    is-size = rw (eq-eqb kind 1 one, ← first .same, ← second .same, distance-is x y, e);
     is-divisor = rw (eq-eqb kind 1 one, ← first .same, ← second .same);
     small = omega arith;
   }
@@ -63,7 +73,8 @@ module _ {kind x y : ℕ} {a b c : ℤ} (first : ReadingIs a x) (second : Readin
   pub check-quotient : (kind ≡ 1 → ⊥) → kind ≡ 2 → IsQuotient kind a b c (record { negative = false; numerator = 10000 * x; divisor = y })
   unfolding numerator divisor
   check-quotient not-one two = record {
-    is-numerator = rw (ne-eqb kind 1 not-one, eq-eqb kind 2 two, ← first .same);
+    is-sign = rw (ne-eqb kind 1 not-one, eq-eqb kind 2 two, ← first .same) (not-below (10000 * x));
+    is-size = rw (ne-eqb kind 1 not-one, eq-eqb kind 2 two, ← first .same);
     is-divisor = rw (ne-eqb kind 1 not-one, eq-eqb kind 2 two, ← second .same);
     small = omega arith;
   }
@@ -72,7 +83,8 @@ module _ {kind x y : ℕ} {a b c : ℤ} (first : ReadingIs a x) (second : Readin
       → IsQuotient kind a b c (record { negative = ltb x y; numerator = 10000 * d; divisor = z })
   unfolding numerator divisor
   spike-quotient {d} not-one not-two e third = record {
-    is-numerator = rw (ne-eqb kind 1 not-one, ne-eqb kind 2 not-two, ← first .same, ← second .same, e) (signed-distance x y);
+    is-sign = rw (ne-eqb kind 1 not-one, ne-eqb kind 2 not-two, ← first .same, ← second .same) (difference-below x y);
+    is-size = rw (ne-eqb kind 1 not-one, ne-eqb kind 2 not-two, ← first .same, ← second .same, magnitude-times, distance-is x y, e);
     is-divisor = rw (ne-eqb kind 1 not-one, ne-eqb kind 2 not-two, ← third .same);
     small = omega arith;
   }

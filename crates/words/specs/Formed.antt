@@ -3,6 +3,7 @@ use mathlib.Core.Path.{_≡_}
 use mathlib.Core.Bool.{Bool, true, false}
 use Prim.Native.Nat.{ℕ, _≤_}
 use lib.IntN.{ℤ, pos, natAbs, negℤ}
+use lib.Signed.{ltZ}
 use Rattle.guide.specs.Word as guide
 use Rattle.words.specs.declared.Formed.{Formed}
 use Rattle.words.specs.declared.Formed.the-variants.{Word, Refused}
@@ -23,8 +24,10 @@ pub record ReadingIs (x : ℤ) (n : ℕ) : Type 0 where
   pub same : pos n ≡ x
   pub small : n ≤ 1000000000
 
--- q is the quotient of the paper, before it is rounded, and its numerator is small enough for the rounded quotient to be signed
+-- q is the quotient of the paper before it is rounded, by the sign and the size of its numerator, which is small enough for the rounded
+-- quotient to be signed
 pub record IsQuotient (kind : ℕ) (a b c : ℤ) (q : Quotient) : Type 0 where
-  pub is-numerator : signed (q .negative) (q .numerator) ≡ guide.numerator kind a b c
+  pub is-sign : q .negative ≡ ltZ (guide.numerator kind a b c) (pos 0)
+  pub is-size : q .numerator ≡ natAbs (guide.numerator kind a b c)
   pub is-divisor : q .divisor ≡ natAbs (guide.divisor kind a b c)
   pub small : q .numerator ≤ 20000000000000

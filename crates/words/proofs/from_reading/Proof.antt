@@ -11,7 +11,7 @@ use Rattle.guide.specs.Choice.{require}
 use Rattle.guide.specs.Kind.{inRange}
 use Rattle.guide.specs.Word.{formed, refused, areReadings, quotient, fromReading}
 use Rattle.words.specs.Formed.{formedSays, IsQuotient}
-use Rattle.words.proofs.Laws.{in-range-fits}
+use Rattle.words.proofs.Laws.{in-range-fits, numerator-is}
 use Rattle.words.proofs.from_reading.Statement.{statement}
 use Rattle.words.proofs.from_reading.Tie as tie
 
@@ -52,11 +52,12 @@ unfolding fromReading quotient
 answer c =
     let q = quotient-at c in
     let is = is-quotient q in
+    let args = start-at c .args in
     rw (
       readings-hold (q .before),
       ← is .is-divisor,
       ne-eqb (q .quotient-of .result .divisor) 0 (c .before .before .if2 .left),
-      ← is .is-numerator,
+      ← numerator-is (args .kind) (args .a) (args .b) (args .c) (q .quotient-of .result) is,
       ← c .before .nearest-to .ensures,
       ← range-tested c,
     )
