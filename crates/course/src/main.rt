@@ -6,6 +6,9 @@ use chart::Chart;
 use libc::STDOUT_FILENO;
 use words::Formed;
 ghost use mathlib.Core.Path.{_≡_};
+ghost use mathlib.Core.List.{_++_};
+ghost use Prim.Native.Nat.{_≤_};
+ghost use lib.ListN.{length, replicate, drop};
 ghost use Rattle.guide.specs.Word.{wordAlone};
 ghost use Rattle.words.specs.Formed.{formedSays};
 ghost use Rattle.chart.specs.Chart.{Builds};
@@ -32,97 +35,31 @@ fn main() {
     show_word(b"spike SSR 300, SR 0, SA 100: ", 3, 300, 0, 100);
 
     io::write_all(STDOUT_FILENO, b"Charts\n");
-    let a = [
-        9900,
-        9900,
-        9900,
-        9900,
-        9900,
-        9900,
-        9900,
-        10100,
-        10100,
-        10100,
-        10100,
-        10100,
-        10100,
-        10100,
-        10000,
-    ];
+    let mut a = [10100; 15];
+    fill_front(&mut a, 7, 9900);
+    a[14] = 10000;
     show_build(b"A, kind 2: ", 2, &a);
-    let one_out = [
-        1000,
-        1000,
-        1000,
-        1000,
-        1000,
-        1000,
-        1000,
-        1000,
-        1000,
-        1000,
-        1000,
-        1000,
-        1000,
-        1000,
-        2000,
-    ];
-    show_build(b"1000 fourteen times and 2000, kind 1: ", 1, &one_out);
-    let one_low = [
-        1000,
-        1000,
-        1000,
-        1000,
-        1000,
-        1000,
-        1000,
-        1000,
-        1000,
-        1000,
-        1000,
-        1000,
-        1000,
-        1000,
-        0,
-    ];
-    show_build(b"1000 fourteen times and 0, kind 1: ", 1, &one_low);
-    show_build(b"1000 fourteen times and 0, kind 2: ", 2, &one_low);
-    let together = [
-        10000,
-        10000,
-        10000,
-        10000,
-        10000,
-        10000,
-        10000,
-        10000,
-        10000,
-        10000,
-        10000,
-        10000,
-        10000,
-        10001,
-        10001,
-        10001,
-        10001,
-        10001,
-        10001,
-        10001,
-        10001,
-        10001,
-        10001,
-        10001,
-        10001,
-        10001,
-        10050,
-        10051,
-    ];
+    let mut ends_in = [1000; 15];
+    ends_in[14] = 2000;
+    show_build(b"1000 fourteen times and 2000, kind 1: ", 1, &ends_in);
+    ends_in[14] = 0;
+    show_build(b"1000 fourteen times and 0, kind 1: ", 1, &ends_in);
+    show_build(b"1000 fourteen times and 0, kind 2: ", 2, &ends_in);
+    let mut together = [10001; 28];
+    fill_front(&mut together, 13, 10000);
+    together[26] = 10050;
+    together[27] = 10051;
     show_build(
         b"10000 and 10001 thirteen times, 10050, 10051, kind 2: ",
         2,
         &together,
     );
-    let to_ten = [0, 0, 0, 0, 0, 0, 0, 0, 0, 0, 1, 12, 144, 1728, 20000];
+    let mut to_ten = [0; 15];
+    to_ten[10] = 1;
+    to_ten[11] = 12;
+    to_ten[12] = 144;
+    to_ten[13] = 1728;
+    to_ten[14] = 20000;
     show_build(
         b"0 ten times, 1, 12, 144, 1728, 20000, kind 1: ",
         1,
@@ -138,6 +75,19 @@ fn main() {
     show_build(b"33 words: ", 2, &[10000; 33]);
     show_build(b"kind 0, no word: ", 0, &[10000; 0]);
     show_build(b"kind 4: ", 4, &[10000; 15]);
+}
+
+// Puts w in the first n places.
+fn fill_front(words: &mut [i16], n: usize, w: i16) -> usize
+    requires { ⌜ n ≤ length (now words) ⌝ }
+    ensures { λ r. ⌜ (r ≡ n) × (now (words .exit) ≡ replicate n w ++ drop n (now (words .entry))) ⌝ }
+{
+    let mut i: usize = 0;
+    while i < n {
+        words[i] = w;
+        i += 1;
+    }
+    n
 }
 
 fn show_word(text: &[u8], kind: u16, a: i64, b: i64, c: i64) -> Formed

@@ -28,8 +28,8 @@ use Rattle.guide.proofs.Held.{cast-word, word-small}
 -- ---- V
 
 module _ (s : Sums) (b : OfBase s) where
-  pub nq-small : s .n * s .q ≤ 1099511627776
-  nq-small = let q : s .q ≤ 34359738368 = omega (arith, b .few, b .squares) in omega (arith, mul-le-mul (b .few) q)
+  pub nq-small : s .n * s .q ≤ 2 ^ 40
+  nq-small = let q : s .q ≤ 2 ^ 35 = omega (arith, b .few, b .squares) in omega (arith, mul-le-mul (b .few) q)
 
   pub v-is : pos (s .n * s .q - natAbs (s .t) * natAbs (s .t)) ≡ vOf (sumsSay s)
   unfolding vOf
@@ -38,10 +38,10 @@ module _ (s : Sums) (b : OfBase s) where
       rw (square-magnitude (s .t))
       (sym (is-pos (s .n * s .q - a) (minus (of-pos {n = s .n * s .q}) (of-pos {n = a})) (omega (arith, b .v))))
 
-  pub v-small : natAbs (vOf (sumsSay s)) ≤ 1099511627776
+  pub v-small : natAbs (vOf (sumsSay s)) ≤ 2 ^ 40
   v-small = omega (arith, nq-small, ap natAbs v-is)
 
-  pub sum-small : natAbs (s .t) ≤ 1048576
+  pub sum-small : natAbs (s .t) ≤ 2 ^ 20
   sum-small = omega (arith, b .few, b .sum)
 
   pub sum-fits : SFits w64 (s .t)
@@ -60,7 +60,7 @@ abbrev heldProduct : Sums → ℤ → ℤ
 heldProduct s w = toZ w64 (s .n) *ℤ castWord w
 
 module _ (s : Sums) (b : OfBase s) (w : ℤ) (h : SFits w16 w) where
-  product-small : natAbs (pos (s .n) *ℤ w) ≤ 1048576
+  product-small : natAbs (pos (s .n) *ℤ w) ≤ 2 ^ 20
   product-small = omega (arith, magnitude-times (s .n) w, mul-le-mul (b .few) (word-small h))
 
   product-fits : SFits w64 (pos (s .n) *ℤ w)
@@ -72,7 +72,7 @@ module _ (s : Sums) (b : OfBase s) (w : ℤ) (h : SFits w16 w) where
   pub product-held : SFits w64 (heldProduct s w)
   product-held = rw product product-fits
 
-  pub deviation-small : natAbs (scaledDeviation (sumsSay s) w) ≤ 2097152
+  pub deviation-small : natAbs (scaledDeviation (sumsSay s) w) ≤ 2 ^ 21
   unfolding scaledDeviation
   deviation-small =
       omega (arith, product-small, sum-small s b, magnitude-plus (pos (s .n) *ℤ w) (negℤ (s .t)), magnitude-negated (s .t))
@@ -106,7 +106,7 @@ module _ (s : Sums) (b : OfBase s) (w : ℤ) (h : SFits w16 w) where
 
 -- V of some words is not negative
 of-base : (s : Sums) (ws : List ℤ) → sumsSay s ≡ sumsOf ws → s .n ≤ baseMost
-    → natAbs (s .t) ≤ 32768 * s .n → s .q ≤ 1073741824 * s .n → OfBase s
+    → natAbs (s .t) ≤ 2 ^ 15 * s .n → s .q ≤ 2 ^ 30 * s .n → OfBase s
 unfolding vOf
 of-base s ws e few sum squares =
     let k = natAbs (vOf (sumsOf ws)) in
@@ -174,7 +174,7 @@ module _ (m : ℕ) (s : Sums) (d : ℤ) (k : Comparable m s d) where
 
   pub nv-fits : (v : ℕ) → pos v ≡ vOf (sumsSay s) → s .n * v < 2 ^ 64
   nv-fits v e =
-      let h : v ≤ 1099511627776 = omega (arith, ap natAbs e, v-small s (k .base)) in
+      let h : v ≤ 2 ^ 40 = omega (arith, ap natAbs e, v-small s (k .base)) in
       omega (arith, mul-le-mul (k .base .few) h)
 
   pub square-small : (a : ℕ) → a ≡ natAbs d → a * a ≤ 2 ^ 58
@@ -185,7 +185,7 @@ module _ (m : ℕ) (s : Sums) (d : ℤ) (k : Comparable m s d) where
       let h : s .n - 1 ≤ 31 = omega (arith, k .base .few) in
       omega (arith, mul-le-mul (square-small a e) h)
 
-comparable : (m : ℕ) (s : Sums) (d : ℤ) → m < 256 → OfBase s → natAbs d ≤ 2097152 → Comparable m s d
+comparable : (m : ℕ) (s : Sums) (d : ℤ) → m < 256 → OfBase s → natAbs d ≤ 2 ^ 21 → Comparable m s d
 comparable m s d h b k =
     let p : m ≤ 255 = omega arith in
     record { base = b; limit = omega (arith, mul-le-mul (mul-le-mul p p) (mul-le-mul (b .few) (v-small s b))); near = omega arith }
@@ -197,7 +197,7 @@ pub record HeldDeviation (m : ℕ) (s : Sums) (w r : ℤ) : Type 0 where
   pub comparable : Comparable m s (toZ w64 (ofZ w64 r))
 
 pub held-deviation : (m : ℕ) (s : Sums) (w r : ℤ) → m < 256 → OfBase s → SFits w16 w
-    → r ≡ scaledDeviation (sumsSay s) (toZ w16 (ofZ w16 w)) → natAbs r ≤ 2097152 → HeldDeviation m s w r
+    → r ≡ scaledDeviation (sumsSay s) (toZ w16 (ofZ w16 w)) → natAbs r ≤ 2 ^ 21 → HeldDeviation m s w r
 held-deviation m s w r few b h e k =
     let held : toZ w64 (ofZ w64 r) ≡ scaledDeviation (sumsSay s) w =
     toZ-ofZ (small-fits (omega (arith, k))) ∙ e ∙ ap (scaledDeviation (sumsSay s)) (toZ-ofZ h) in

@@ -19,8 +19,8 @@ limitsSay l = record { kind = l .kind; sums = sumsSay (l .sums) }
 -- the sums of at most 32 words of sixteen bits lie within these numbers, and V is not negative
 pub record OfBase (s : Sums) : Type 0 where
   pub few : s .n ≤ baseMost
-  pub sum : natAbs (s .t) ≤ 32768 * s .n
-  pub squares : s .q ≤ 1073741824 * s .n
+  pub sum : natAbs (s .t) ≤ 2 ^ 15 * s .n
+  pub squares : s .q ≤ 2 ^ 30 * s .n
   pub v : natAbs (s .t) * natAbs (s .t) ≤ s .n * s .q
 
 -- a word is beyond the upper limit at the multiple m; beyond the lower one

@@ -3,19 +3,16 @@
 // A limit is the mean plus or minus a multiple m of S. `sums_of` gives n, T and Q of some words; `beyond` compares a word with the
 // limits at any m, by squares of whole numbers, and `beyond_control` at the paper's 3.
 ghost use mathlib.Core.Path.{_≡_};
-ghost use mathlib.Core.Bool.{Bool};
-ghost use Prim.Native.Nat.{ℕ, suc, _+_, _*_, _-_, _≤_, _<_};
+ghost use Prim.Native.Nat.{_+_, _*_, _^_, _≤_, _<_};
 ghost use lib.ListN.{length};
-ghost use lib.IntN.{ℤ, pos, natAbs, _+ℤ_, _*ℤ_};
+ghost use lib.IntN.{pos, natAbs, _+ℤ_};
 ghost use Rattle.guide.specs.Sizes.{baseMost};
 ghost use Rattle.guide.specs.Kind.{hasLower};
 ghost use Rattle.guide.specs.Limits.{sumsOf, vOf, scaledDeviation, exceeds, beyondControl};
 ghost use Rattle.limits.specs.Sums.{sumsSay, limitsSay, OfBase, Comparable, IsBeyond};
 
-// Control limits are the mean ± 3S, warning limits the mean ± 2S.
-pub const CONTROL: u8 = 3;
-
-pub const WARNING: u8 = 2;
+// Control limits are the mean ± 3S.
+const CONTROL: u8 = 3;
 
 // The number n of words, their sum T, and the sum Q of their squares. V = n·Q − T² is worked out from these.
 pub struct Sums {
@@ -104,7 +101,7 @@ fn v_of(s: Sums) -> u64
 // n·w − T, which is n times the deviation of w from the mean.
 fn deviation_of(s: Sums, w: i16) -> i64
     requires { ⌜ OfBase s ⌝ }
-    ensures { λ r. ⌜ (r ≡ scaledDeviation (sumsSay s) w) × (natAbs r ≤ 2097152) ⌝ }
+    ensures { λ r. ⌜ (r ≡ scaledDeviation (sumsSay s) w) × (natAbs r ≤ 2 ^ 21) ⌝ }
 {
     (s.n as i64) * (w as i64) - s.t
 }
@@ -122,7 +119,7 @@ fn with_word(s: Sums, w: i16) -> Sums
 }
 
 fn square(w: i16) -> u64
-    ensures { λ r. ⌜ (r ≡ natAbs w * natAbs w) × (r ≤ 1073741824) ⌝ }
+    ensures { λ r. ⌜ (r ≡ natAbs w * natAbs w) × (r ≤ 2 ^ 30) ⌝ }
 {
     let a = magnitude(w as i64);
     a * a

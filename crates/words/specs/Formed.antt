@@ -1,7 +1,7 @@
 -- What the types of `words` say in the paper's terms.
 use mathlib.Core.Path.{_≡_}
 use mathlib.Core.Bool.{Bool, true, false}
-use Prim.Native.Nat.{ℕ, _≤_}
+use Prim.Native.Nat.{ℕ, _*_, _≤_}
 use lib.IntN.{ℤ, pos, natAbs, negℤ}
 use lib.Signed.{ltZ}
 use Rattle.guide.specs.Word as guide
@@ -30,4 +30,4 @@ pub record IsQuotient (kind : ℕ) (a b c : ℤ) (q : Quotient) : Type 0 where
   pub is-sign : q .negative ≡ ltZ (guide.numerator kind a b c) (pos 0)
   pub is-size : q .numerator ≡ natAbs (guide.numerator kind a b c)
   pub is-divisor : q .divisor ≡ natAbs (guide.divisor kind a b c)
-  pub small : q .numerator ≤ 20000000000000
+  pub small : q .numerator ≤ 20000 * 1000000000

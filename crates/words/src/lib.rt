@@ -7,7 +7,7 @@
 // Tests are joined by `&` and `|`, which evaluate both sides: no test here can fail, and the result is the definition's own expression.
 ghost use mathlib.Core.Path.{_≡_};
 ghost use mathlib.Core.Bool.{true};
-ghost use Prim.Native.Nat.{_+_, _-_, _≤_, _<_};
+ghost use Prim.Native.Nat.{_+_, _-_, _*_, _≤_, _<_};
 ghost use Rattle.guide.specs.Kind.{isKind, inRange};
 ghost use Rattle.guide.specs.Word.{isReading, areReadings, nearest, nearestNatural, fromReading, wordAlone};
 ghost use Rattle.words.specs.Formed.{formedSays, signed, ReadingIs, IsQuotient};
@@ -123,7 +123,7 @@ fn distance_of(x: u64, y: u64) -> u64
 
 // The nearest whole number, halves away from zero.
 fn nearest_to(q: Quotient) -> i64
-    requires { ⌜ (0 < q .divisor) × (q .numerator ≤ 20000000000000) ⌝ }
+    requires { ⌜ (0 < q .divisor) × (q .numerator ≤ 20000 * 1000000000) ⌝ }
     ensures { λ r. ⌜ r ≡ nearest (signed (q .negative) (q .numerator)) (q .divisor) ⌝ }
 {
     let w = nearest_natural(q.numerator, q.divisor) as i64;
@@ -132,7 +132,7 @@ fn nearest_to(q: Quotient) -> i64
 
 // One more than the whole quotient, where what is left over is half of the divisor or more.
 fn nearest_natural(numerator: u64, divisor: u64) -> u64
-    requires { ⌜ (0 < divisor) × (numerator ≤ 20000000000000) ⌝ }
+    requires { ⌜ (0 < divisor) × (numerator ≤ 20000 * 1000000000) ⌝ }
     ensures { λ r. ⌜ (r ≡ nearestNatural numerator divisor) × (r ≤ numerator + 1) ⌝ }
 {
     let whole = numerator / divisor;

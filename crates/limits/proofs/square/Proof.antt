@@ -1,6 +1,6 @@
 -- `limits::square` meets its contract.
 use mathlib.Core.Path.{_≡_, ap, _∙_}
-use Prim.Native.Nat.{ℕ, _*_, _≤_}
+use Prim.Native.Nat.{ℕ, _*_, _≤_, _^_}
 use native.Mathlib.Omega.{arith}
 use native.Mathlib.Nat.{mul-le-mul}
 use borrow.Author.Needs.{needs}
@@ -12,8 +12,8 @@ use Rattle.limits.proofs.square.Tie as tie
 size : (c : tie.After-magnitude) → c .magnitude .result ≡ natAbs (c .before .args .w)
 size c = c .magnitude .ensures ∙ ap natAbs (cast-word (c .before .fits .w))
 
-small : (c : tie.After-magnitude) → c .magnitude .result * c .magnitude .result ≤ 1073741824
-small c = let b : c .magnitude .result ≤ 32768 = omega (arith, size c, word-small (c .before .fits .w)) in omega (arith, mul-le-mul b b)
+small : (c : tie.After-magnitude) → c .magnitude .result * c .magnitude .result ≤ 2 ^ 30
+small c = let b : c .magnitude .result ≤ 2 ^ 15 = omega (arith, size c, word-small (c .before .fits .w)) in omega (arith, mul-le-mul b b)
 
 cast-magnitude : tie.Need-cast-magnitude
 cast-magnitude c = cast-fits (c .fits .w)
