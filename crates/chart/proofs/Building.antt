@@ -15,7 +15,7 @@ use Rattle.guide.specs.Sizes.{baseWanted, baseMost, seriesMost}
 use Rattle.guide.specs.Kind.{isKind, inRange}
 use Rattle.guide.specs.State.{State, fresh}
 use Rattle.guide.specs.Rejection.{rejection}
-use Rattle.guide.specs.Building.{isEnough, allInRange, BuildingAnswer, built, refused, builtFrom, building}
+use Rattle.guide.specs.Building.{isBuildCount, allInRange, BuildingAnswer, built, refused, builtFrom, building}
 use Rattle.guide.proofs.Booleans.{both}
 use Rattle.chart.specs.Pad.{pad}
 use Rattle.chart.specs.Chart.{stateOf, chartOf, freshChart, zeroChart, buildRefusal, buildSays, chartAfter, Builds}
@@ -47,7 +47,7 @@ module _ (kind : ℕ) (ws : List ℤ) where
 
   pub declined : (n : ℕ) → n ≡ buildRefusal kind ws → (n ≡ 0 → ⊥) → building kind ws ≡ refused n
   unfolding buildRefusal building
-  declined n e ne = decided (isKind kind) (isEnough ws) (allInRange kind ws) n (builtFrom kind (rejection kind ws)) e ne
+  declined n e ne = decided (isKind kind) (isBuildCount ws) (allInRange kind ws) n (builtFrom kind (rejection kind ws)) e ne
 
   passed : (a b c : Bool) (n : ℕ) (x : BuildingAnswer) → n ≡ require a 1 (require b 2 (require c 3 0)) → n ≡ 0
       → (require a (refused 1) (require b (refused 2) (require c (refused 3) x)) ≡ x) × (b ≡ true)
@@ -58,9 +58,9 @@ module _ (kind : ℕ) (ws : List ℤ) where
 
   pub accepted : (n : ℕ) → n ≡ buildRefusal kind ws → n ≡ 0
       → (building kind ws ≡ builtFrom kind (rejection kind ws)) × (length ws ≤ baseMost)
-  unfolding buildRefusal building isEnough
+  unfolding buildRefusal building isBuildCount
   accepted n e z =
-      let p = passed (isKind kind) (isEnough ws) (allInRange kind ws) n (builtFrom kind (rejection kind ws)) e z in
+      let p = passed (isKind kind) (isBuildCount ws) (allInRange kind ws) n (builtFrom kind (rejection kind ws)) e z in
       (p .0, leb-true (length ws) baseMost (both (leb baseWanted (length ws)) (leb (length ws) baseMost) (p .1) .1))
 
 -- ---- the chart that building gives

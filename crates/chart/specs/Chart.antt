@@ -9,7 +9,7 @@ use Rattle.guide.specs.Choice.{require}
 use Rattle.guide.specs.Sizes.{baseMost, seriesMost}
 use Rattle.guide.specs.Kind.{isKind}
 use Rattle.guide.specs.State.{State}
-use Rattle.guide.specs.Building.{isEnough, allInRange, BuildingAnswer, built, refused, building}
+use Rattle.guide.specs.Building.{isBuildCount, allInRange, BuildingAnswer, built, refused, building}
 use Rattle.chart.specs.declared.Chart.{Chart}
 use Rattle.chart.specs.declared.Built.{Built}
 use Rattle.chart.specs.declared.BuildAnswer.{BuildAnswer}
@@ -61,7 +61,7 @@ zeroChart = freshChart 0 (replicate baseMost (pos 0)) 0
 unfoldable pub buildRefusal : ℕ → List ℤ → ℕ
 buildRefusal kind words =
     require (isKind kind) 1
-    (require (isEnough words) 2
+    (require (isBuildCount words) 2
     (require (allInRange kind words) 3
     0))
 

@@ -10,7 +10,7 @@ ghost use Prim.Native.Nat.{_≤_};
 ghost use lib.ListN.{length};
 ghost use lib.IntN.{pos};
 ghost use Rattle.guide.specs.Sizes.{baseMost};
-ghost use Rattle.guide.specs.Building.{isEnough, allInRange};
+ghost use Rattle.guide.specs.Building.{isBuildCount, allInRange};
 ghost use Rattle.chart.specs.Pad.{pad};
 ghost use Rattle.chart.specs.Chart.{zeroChart, freshChart, buildRefusal, Builds};
 
@@ -78,7 +78,7 @@ fn build_refusal(kind: u16, words: &[i16]) -> u16
     if !words::is_kind(kind) {
         return 1;
     }
-    if !is_enough(words) {
+    if !is_build_count(words) {
         return 2;
     }
     if !all_in_range(kind, words) {
@@ -87,8 +87,8 @@ fn build_refusal(kind: u16, words: &[i16]) -> u16
     0
 }
 
-fn is_enough(words: &[i16]) -> bool
-    ensures { λ r. ⌜ r ≡ isEnough (now (words .entry)) ⌝ }
+fn is_build_count(words: &[i16]) -> bool
+    ensures { λ r. ⌜ r ≡ isBuildCount (now (words .entry)) ⌝ }
 {
     let n = words.len();
     (Chart::BASE_WANTED <= n) & (n <= Chart::BASE_MOST)

@@ -7,11 +7,11 @@ use Rattle.guide.specs.Limits.{sumOf, sumOfSquares, sumsOf, vOf, scaledD
 use Rattle.guide.specs.Limits.{beyondLower, beyond, beyondControl, beyondWarning}
 use Rattle.guide.specs.Rejection.{without, afterRound, rejectionWithin, rejection}
 use Rattle.guide.specs.State.{fresh}
-use Rattle.guide.specs.Building.{isEnough, allInRange, building}
+use Rattle.guide.specs.Building.{isBuildCount, allInRange, building}
 use Rattle.guide.specs.Figures.{Row, table}
 
 pub figures-hold : map (λ (r : Row). r .defined) table ≡ map (λ (r : Row). r .figure) table
 unfolding table isKind ignoresThird inRange hasLower isReading areReadings numerator divisor nearestNatural nearest quotient fromReading
     wordAlone sumOf sumOfSquares sumsOf vOf scaledDeviation exceeds above below limitsOf beyondUpper beyondLower beyond beyondControl
-    beyondWarning without afterRound rejectionWithin rejection fresh isEnough allInRange building
+    beyondWarning without afterRound rejectionWithin rejection fresh isBuildCount allInRange building
 figures-hold = refl

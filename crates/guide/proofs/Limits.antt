@@ -14,25 +14,13 @@ use lib.IntN.{ℤ, pos, negsuc, natAbs, _+ℤ_, _-ℤ_, _*ℤ_, +ℤ-assoc, +ℤ
 use borrow.Author.Tests.{ltb-true}
 use Rattle.guide.specs.Choice.{choose}
 use Rattle.guide.specs.Kind.{hasLower}
+use Rattle.guide.specs.Limits.{squareOf, sumBy, deviationSquares}
 use Rattle.guide.specs.Limits.{Sums, sumOf, sumOfSquares, sumsOf, vOf, scaledDeviation, exceeds, above, below, Limits, beyondUpper}
 use Rattle.guide.specs.Limits.{beyondLower, beyond}
 use Rattle.guide.specs.Rejection.{without}
 use Rattle.guide.proofs.Booleans.{both, either}
 use Rattle.guide.proofs.Integers.{sub-cases, Diff, of-pos, of-neg, of-any, up, down, recast, plus, minus, times, square-of, squared}
 use Rattle.guide.proofs.Integers.{square-magnitude, is-pos, agree}
-
--- the sum of f over some words
-unfoldable pub sumBy : (ℤ → ℕ) → List ℤ → ℕ
-sumBy f [] = 0
-sumBy f (w ∷ ws) = f w + sumBy f ws
-
--- the square of an integer
-abbrev pub squareOf : ℤ → ℕ
-squareOf z = natAbs z * natAbs z
-
--- the sum of the squared deviations n·w − T
-abbrev pub deviationSquares : Sums → List ℤ → ℕ
-deviationSquares s ws = sumBy (λ w. squareOf (scaledDeviation s w)) ws
 
 -- ---- T and Q in natural numbers
 
@@ -130,7 +118,7 @@ unfolding exceeds
 exceeds-natural m s v d e = rw (e, square-magnitude d)
 
 -- and of some words' own sums
-exceeds-squares : (m : ℕ) (ws : List ℤ) (d : ℤ)
+pub exceeds-squares : (m : ℕ) (ws : List ℤ) (d : ℤ)
     → exceeds m (sumsOf ws) d ≡ ltb (m * m * deviationSquares (sumsOf ws) ws) (squareOf d * (length ws - 1))
 unfolding sumsOf
 exceeds-squares m ws d =

@@ -1,35 +1,63 @@
--- Laws of rounding: `nearest` is the nearest whole number, and a half goes away from zero. The two together leave no other number.
-use mathlib.Core.Path.{_≡_, ap}
-use Prim.Native.Nat.{ℕ, suc, _+_, _*_, _%_, _<_, _≤_}
+-- Laws of rounding: `nearest` is a nearest whole number, of two the one farther from zero (`nearest-is`), and nothing else is
+-- (`nearest-only`). `natural-only` is the same of natural numbers, by the bounds that a quotient has.
+use mathlib.Core.Path.{_≡_, sym, ap}
+use Prim.Native.Nat.{ℕ, zero, suc, _+_, _*_, _%_, _<_, _≤_}
 use native.Mathlib.Omega.{arith}
-use native.Mathlib.Nat.{div-add-mod', mod-lt}
-use lib.IntN.{ℤ, pos, negsuc, natAbs, _-ℤ_, _*ℤ_}
-use Rattle.guide.specs.Word.{nearestNatural, nearest}
-use Rattle.guide.proofs.Integers.{of-pos, of-neg, negated, minus, times, magnitude, magnitude-negated}
+use native.Mathlib.Nat.{div-add-mod', div-eq-of-lt-le, mod-lt}
+use lib.IntN.{ℤ, pos, negsuc, negℤ}
+use Rattle.guide.specs.Word.{nearestNatural, nearest, IsNearest}
+use Rattle.guide.proofs.Integers.{sub-cases, distance, of-pos, of-neg, negated, minus, times, magnitude, magnitude-negated}
 
--- d·r is within d / 2 of z, and where it is just d / 2 away it is the one farther from zero
-pub record IsNearest (z : ℤ) (d : ℕ) (r : ℤ) : Type 0 where
-  pub close : 2 * natAbs (pos d *ℤ r -ℤ z) ≤ d
-  pub away : 2 * natAbs (pos d *ℤ r -ℤ z) ≡ d → natAbs z < d * natAbs r
+-- ---- natural numbers
 
--- the rounded quotient of naturals, by what division leaves
-quotient-bounds : (n d : ℕ) → 0 < d → (2 * (d * nearestNatural n d) ≤ 2 * n + d) × (2 * n < 2 * (d * nearestNatural n d) + d)
+natural-bounds : (n d : ℕ) → 0 < d → (2 * (d * nearestNatural n d) ≤ 2 * n + d) × (2 * n < 2 * (d * nearestNatural n d) + d)
 unfolding nearestNatural
-quotient-bounds n d h =
+natural-bounds n d h =
     let x = 2 * n + d in
     let e = div-add-mod' x (2 * d) in
     let m : x % (2 * d) < 2 * d = mod-lt x (omega arith) in
     (omega arith, omega arith)
 
+pub natural-only : (n d k : ℕ) → 2 * (d * k) ≤ 2 * n + d → 2 * n < 2 * (d * k) + d → k ≡ nearestNatural n d
+unfolding nearestNatural
+natural-only n d k least most = sym (div-eq-of-lt-le (2 * d) (omega arith) (omega arith))
+
+-- ---- integers
+
 pub nearest-is : (z : ℤ) (d : ℕ) → 0 < d → IsNearest z d (nearest z d)
 unfolding nearest
 nearest-is (pos n) d h =
     let r = nearestNatural n d in
-    let b = quotient-bounds n d h in
+    let b = natural-bounds n d h in
     let m = magnitude (minus (times d (of-pos {n = r})) (of-pos {n = n})) in
     record { close = omega arith; away = λ e. omega arith }
 nearest-is (negsuc n) d h =
     let r = nearestNatural (suc n) d in
-    let b = quotient-bounds (suc n) d h in
+    let b = natural-bounds (suc n) d h in
     let m = magnitude (minus (times d (negated (of-pos {n = r}))) (of-neg {n = n})) in
     record { close = omega arith; away = λ e. omega (arith, ap (λ (x : ℕ). d * x) (magnitude-negated (pos r))) }
+
+-- x is within d / 2 of n, and not just d / 2 below it
+not-below : (n x d m : ℕ) → m ≡ distance x n → 2 * m ≤ d → (2 * m ≡ d → n < x) → 2 * n < 2 * x + d
+not-below n x d m e close away =
+    sub-cases (2 * n) (2 * x + d) (λ z. 2 * n < 2 * x + d)
+    (λ k p. absurd (omega (arith, away (omega arith))))
+    (λ k p. omega arith)
+
+pub nearest-only : (z : ℤ) (d : ℕ) (r : ℤ) → 0 < d → IsNearest z d r → r ≡ nearest z d
+unfolding nearest
+nearest-only (pos n) d (pos k) h i =
+    let m = magnitude (minus (times d (of-pos {n = k})) (of-pos {n = n})) in
+    ap pos (natural-only n d k (omega (arith, i .close)) (not-below n (d * k) d _ (omega arith) (i .close) (i .away)))
+nearest-only (pos n) d (negsuc k) h i =
+    absurd (omega (arith, i .close, magnitude (minus (times d (of-neg {n = k})) (of-pos {n = n}))))
+nearest-only (negsuc n) d (pos zero) h i =
+    let m = magnitude (minus (times d (of-pos {n = 0})) (of-neg {n = n})) in
+    ap (λ (x : ℕ). negℤ (pos x))
+    (natural-only (suc n) d 0 (omega arith) (not-below (suc n) (d * 0) d _ (omega arith) (i .close) (i .away)))
+nearest-only (negsuc n) d (pos (suc k)) h i =
+    absurd (omega (arith, i .close, magnitude (minus (times d (of-pos {n = suc k})) (of-neg {n = n}))))
+nearest-only (negsuc n) d (negsuc k) h i =
+    let m = magnitude (minus (times d (of-neg {n = k})) (of-neg {n = n})) in
+    ap (λ (x : ℕ). negℤ (pos x))
+    (natural-only (suc n) d (suc k) (omega (arith, i .close)) (not-below (suc n) (d * suc k) d _ (omega arith) (i .close) (i .away)))

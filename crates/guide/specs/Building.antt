@@ -11,9 +11,9 @@ use Rattle.guide.specs.Kind.{isKind, inRange}
 use Rattle.guide.specs.Rejection.{RejectionAnswer, rejection}
 use Rattle.guide.specs.State.{State, fresh}
 
--- "15..32 words"
-unfoldable pub isEnough : List ℤ → Bool
-isEnough words = leb baseWanted (length words) && leb (length words) baseMost
+-- the words are as many as building takes: "15..32 words"
+unfoldable pub isBuildCount : List ℤ → Bool
+isBuildCount words = leb baseWanted (length words) && leb (length words) baseMost
 
 -- every word is in the kind's range
 unfoldable pub allInRange : ℕ → List ℤ → Bool
@@ -33,6 +33,6 @@ builtFrom kind r = built (fresh kind (r .base)) (r .rounds) (r .removed)
 unfoldable pub building : ℕ → List ℤ → BuildingAnswer
 building kind words =
     require (isKind kind) (refused 1)
-    (require (isEnough words) (refused 2)
+    (require (isBuildCount words) (refused 2)
     (require (allInRange kind words) (refused 3)
     (builtFrom kind (rejection kind words))))

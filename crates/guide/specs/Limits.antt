@@ -3,9 +3,9 @@
 -- numbers", with the sign of its deviation.
 use mathlib.Core.Bool.{Bool, _&&_, _||_}
 use mathlib.Core.List.{List, [], _∷_, map}
-use Prim.Native.Nat.{ℕ, _*_, _-_}
+use Prim.Native.Nat.{ℕ, _+_, _*_, _-_}
 use lib.ListN.{length}
-use lib.IntN.{ℤ, pos, _+ℤ_, _-ℤ_, _*ℤ_}
+use lib.IntN.{ℤ, pos, natAbs, _+ℤ_, _-ℤ_, _*ℤ_}
 use lib.Signed.{ltZ}
 use Rattle.guide.specs.Kind.{hasLower}
 
@@ -35,7 +35,7 @@ unfoldable pub scaledDeviation : Sums → ℤ → ℤ
 scaledDeviation s w = pos (s .n) *ℤ w -ℤ s .t
 
 -- "S² = V / (n(n − 1))": a deviation of d / n is more than m·S, up or down, where (d / n)² > m²·S², that is d²·(n − 1) > m²·n·V.
--- With n of 0 or 1, where there is no S, nothing exceeds
+-- Of no word and of one word, where there is no S, nothing exceeds
 unfoldable pub exceeds : ℕ → Sums → ℤ → Bool
 exceeds m s d = ltZ (pos (m * m * s .n) *ℤ vOf s) (d *ℤ d *ℤ pos (s .n - 1))
 
@@ -77,3 +77,18 @@ beyondControl limits w = beyond controlMultiple limits w
 
 unfoldable pub beyondWarning : Limits → ℤ → Bool
 beyondWarning limits w = beyond warningMultiple limits w
+
+-- ---- what the laws of limits say
+
+-- the sum of f over some words
+unfoldable pub sumBy : (ℤ → ℕ) → List ℤ → ℕ
+sumBy f [] = 0
+sumBy f (w ∷ ws) = f w + sumBy f ws
+
+-- the square of an integer
+abbrev pub squareOf : ℤ → ℕ
+squareOf z = natAbs z * natAbs z
+
+-- the sum of the squares of n·w − T
+abbrev pub deviationSquares : Sums → List ℤ → ℕ
+deviationSquares s ws = sumBy (λ w. squareOf (scaledDeviation s w)) ws

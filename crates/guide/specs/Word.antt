@@ -1,6 +1,7 @@
 -- Document 01, "From readings to words": the word that a kind and three numbers give, or the number of the refusal.
+use mathlib.Core.Path.{_≡_}
 use mathlib.Core.Bool.{Bool, _&&_, _||_, not}
-use Prim.Native.Nat.{ℕ, suc, _+_, _*_, _/_}
+use Prim.Native.Nat.{ℕ, suc, _+_, _*_, _/_, _<_, _≤_}
 use lib.Dec.{eqb}
 use lib.IntN.{ℤ, pos, negsuc, natAbs, negℤ, _+ℤ_, _-ℤ_, _*ℤ_}
 use lib.Signed.{leZ}
@@ -28,13 +29,18 @@ unfoldable pub divisor : ℕ → ℤ → ℤ → ℤ → ℤ
 divisor kind a b c = byKind kind (a +ℤ b) b c
 
 -- "The quotient goes to the nearest whole number, halves away from zero": n / d of a natural number n, and of an integer, whose
--- sign the result has. `proofs/Word` shows that it is nearest, and which way a half goes
+-- sign the result has. `proofs/Word` shows that it is the nearest (`nearest-is`), and that no other number is (`nearest-only`)
 unfoldable pub nearestNatural : ℕ → ℕ → ℕ
 nearestNatural n d = (2 * n + d) / (2 * d)
 
 unfoldable pub nearest : ℤ → ℕ → ℤ
 nearest (pos n) d = pos (nearestNatural n d)
 nearest (negsuc n) d = negℤ (pos (nearestNatural (suc n) d))
+
+-- what the laws of rounding say: d·r is within d / 2 of z, and where it is just d / 2 away it is the one farther from zero
+pub record IsNearest (z : ℤ) (d : ℕ) (r : ℤ) : Type 0 where
+  pub close : 2 * natAbs (pos d *ℤ r -ℤ z) ≤ d
+  pub away : 2 * natAbs (pos d *ℤ r -ℤ z) ≡ d → natAbs z < d * natAbs r
 
 -- the quotient so rounded. Readings are not negative, so the divisor is its own absolute value; a divisor of 0 is declined before
 unfoldable pub quotient : ℕ → ℤ → ℤ → ℤ → ℤ
@@ -45,7 +51,8 @@ pub data Formed : Type 0 where
   formed : ℤ → Formed
   refused : ℕ → Formed
 
--- a word formed from a reading of one of the three kinds: 5 "a reading outside 0..1,000,000,000", 6 "divisor 0", 7 "word out of range"
+-- a word formed from a reading of one of the three kinds: 5 "a reading outside 0..1,000,000,000", 6 "divisor 0", 7 "word out of range".
+-- Any other kind is taken for 3 here
 unfoldable pub fromReading : ℕ → ℤ → ℤ → ℤ → Formed
 fromReading kind a b c =
     require (areReadings kind a b c) (refused 5)

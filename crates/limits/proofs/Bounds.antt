@@ -17,10 +17,10 @@ use mir.Facts.{toZ-ofZ}
 use mir.ValLaws.{toZ-pos}
 use Rattle.guide.specs.Sizes.{baseMost}
 use Rattle.guide.specs.Limits as guide
-use Rattle.guide.specs.Limits.{sumOf, sumOfSquares, sumsOf, vOf, scaledDeviation, exceeds}
+use Rattle.guide.specs.Limits.{squareOf, sumOf, sumOfSquares, sumsOf, vOf, scaledDeviation, exceeds}
 use Rattle.guide.proofs.Integers.{of-pos, minus, is-pos, agree, square-magnitude, magnitude-plus, magnitude-negated, magnitude-times}
 use Rattle.guide.proofs.Integers.{small-fits}
-use Rattle.guide.proofs.Limits.{squareOf, v-natural, withWord, sums-snoc, exceeds-natural}
+use Rattle.guide.proofs.Limits.{v-natural, withWord, sums-snoc, exceeds-natural}
 use Rattle.limits.specs.declared.Sums.{Sums}
 use Rattle.limits.specs.Sums.{sumsSay, OfBase, Comparable}
 use Rattle.guide.proofs.Held.{cast-word, word-small}

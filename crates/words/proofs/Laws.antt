@@ -2,7 +2,7 @@
 use mathlib.Core.Path.{_≡_, refl, sym}
 use mathlib.Core.Bool.{true, false, _&&_, _||_, false≢true}
 use Prim.Native.Nat.{ℕ, zero, suc, _+_, _-_, _*_, _/_, _%_, _≤_, _<_}
-use native.Mathlib.Nat.{div-add-mod', div-eq-of-lt-le, mod-lt}
+use native.Mathlib.Nat.{div-add-mod', mod-lt}
 use native.Mathlib.Omega.{arith}
 use lib.Dec.{T, ltb, leb, eqb}
 use lib.IntN.{ℤ, pos, negsuc, natAbs, negℤ, _-ℤ_, _*ℤ_}
@@ -13,6 +13,7 @@ use borrow.Author.Tests.{leb-true, le-ltb, eq-eqb, ne-eqb}
 use Rattle.guide.specs.Kind.{byKind, ignoresThird, inRange}
 use Rattle.guide.specs.Word.{isReading, areReadings, numerator, divisor, nearestNatural, nearest}
 use Rattle.guide.proofs.Booleans.{both, by-test}
+use Rattle.guide.proofs.Word.{natural-only}
 use Rattle.guide.proofs.Integers.{distance, of-pos, minus, times, magnitude, magnitude-times, is-below}
 use Rattle.words.specs.declared.Quotient.{Quotient}
 use Rattle.words.specs.Formed.{signed, ReadingIs, IsQuotient}
@@ -107,23 +108,19 @@ in-range-fits kind (negsuc n) h =
 
 -- ---- rounding
 
-nearest-natural-is : (n d k : ℕ) → k * (2 * d) ≤ 2 * n + d → 2 * n + d < (k + 1) * (2 * d) → k ≡ nearestNatural n d
-unfolding nearestNatural
-nearest-natural-is n d k least most = sym (div-eq-of-lt-le (2 * d) least most)
-
 pub half-or-more : (n d : ℕ) → 0 < d → d - n % d ≤ n % d → n / d + 1 ≡ nearestNatural n d
 half-or-more n d h t =
     let parts = div-add-mod' n d in
     let left = mod-lt n h in
-    nearest-natural-is n d (n / d + 1) (omega arith) (omega arith)
+    natural-only n d (n / d + 1) (omega arith) (omega arith)
 
 pub less-than-half : (n d : ℕ) → n % d < d - n % d → n / d ≡ nearestNatural n d
 less-than-half n d t =
     let parts = div-add-mod' n d in
-    nearest-natural-is n d (n / d) (omega arith) (omega arith)
+    natural-only n d (n / d) (omega arith) (omega arith)
 
 nearest-of-zero : (d : ℕ) → 0 < d → 0 ≡ nearestNatural 0 d
-nearest-of-zero d h = nearest-natural-is 0 d 0 (omega arith) (omega arith)
+nearest-of-zero d h = natural-only 0 d 0 (omega arith) (omega arith)
 
 pub nearest-negative : (n d : ℕ) → 0 < d → negℤ (pos (nearestNatural n d)) ≡ nearest (negℤ (pos n)) d
 unfolding nearest

@@ -25,7 +25,7 @@ pub record ReadingIs (x : ℤ) (n : ℕ) : Type 0 where
   pub small : n ≤ 1000000000
 
 -- q is the quotient of the paper before it is rounded, by the sign and the size of its numerator, which is small enough for the rounded
--- quotient to be signed
+-- quotient to fit sixty-four signed bits
 pub record IsQuotient (kind : ℕ) (a b c : ℤ) (q : Quotient) : Type 0 where
   pub is-sign : q .negative ≡ ltZ (guide.numerator kind a b c) (pos 0)
   pub is-size : q .numerator ≡ natAbs (guide.numerator kind a b c)

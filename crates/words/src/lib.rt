@@ -4,7 +4,7 @@
 // 0..1,000,000,000, 6 a divisor of 0, 7 a word out of range. `from_reading` is the part that every reading goes through, with 5, 6 and
 // 7; `is_kind` and `in_range` are the kinds and the range of a kind's words, for whoever builds a chart.
 //
-// Tests are joined by `&` and `|`, which evaluate both sides: no test here can fail, and the result is the definition's own expression.
+// Tests are joined by `&` and `|`, which evaluate both sides: none can overflow, and the result is the definition's own expression.
 ghost use mathlib.Core.Path.{_≡_};
 ghost use mathlib.Core.Bool.{true};
 ghost use Prim.Native.Nat.{_+_, _-_, _*_, _≤_, _<_};
@@ -40,6 +40,7 @@ pub fn is_kind(kind: u16) -> bool
     (1 <= kind) & (kind <= 3)
 }
 
+// The kind is 1..3 for whoever asks the paper's question; any other is taken for 3.
 pub fn from_reading(kind: u16, a: i64, b: i64, c: i64) -> Formed
     ensures { λ r. ⌜ formedSays r ≡ fromReading kind a b c ⌝ }
 {
@@ -130,7 +131,7 @@ fn nearest_to(q: Quotient) -> i64
     if q.negative { -w } else { w }
 }
 
-// One more than the whole quotient, where what is left over is half of the divisor or more.
+// The whole quotient, and one more where what is left over is half of the divisor or more.
 fn nearest_natural(numerator: u64, divisor: u64) -> u64
     requires { ⌜ (0 < divisor) × (numerator ≤ 20000 * 1000000000) ⌝ }
     ensures { λ r. ⌜ (r ≡ nearestNatural numerator divisor) × (r ≤ numerator + 1) ⌝ }

@@ -12,14 +12,14 @@ returns : tie.Need-returns
 unfolding buildRefusal
 returns c = rw (answered-no (c .before .is-kind .ensures) (c .if1 .taken))
 
-is-enough-requires : tie.Need-is-enough-requires
-is-enough-requires c κs = search needs
+is-build-count-requires : tie.Need-is-build-count-requires
+is-build-count-requires c κs = search needs
 
 returns-2 : tie.Need-returns-2
 unfolding buildRefusal
 returns-2 c =
     let one = c .before .before in
-    rw (answered-yes (one .before .is-kind .ensures) (one .if1 .left), answered-no (c .before .is-enough .ensures) (c .if2 .taken))
+    rw (answered-yes (one .before .is-kind .ensures) (one .if1 .left), answered-no (c .before .is-build-count .ensures) (c .if2 .taken))
 
 all-in-range-requires : tie.Need-all-in-range-requires
 all-in-range-requires c κs = search needs
@@ -31,7 +31,7 @@ returns-3 c =
     let one = two .before .before in
     rw (
       answered-yes (one .before .is-kind .ensures) (one .if1 .left),
-      answered-yes (two .before .is-enough .ensures) (two .if2 .left),
+      answered-yes (two .before .is-build-count .ensures) (two .if2 .left),
       answered-no (c .before .all-in-range .ensures) (c .if3 .taken),
     )
 
@@ -42,7 +42,7 @@ returns-4 c =
     let one = two .before .before in
     rw (
       answered-yes (one .before .is-kind .ensures) (one .if1 .left),
-      answered-yes (two .before .is-enough .ensures) (two .if2 .left),
+      answered-yes (two .before .is-build-count .ensures) (two .if2 .left),
       answered-yes (c .before .all-in-range .ensures) (c .if3 .left),
     )
 
@@ -52,7 +52,7 @@ build-refusal-spec =
     (tie.spec
     is-kind-requires
     returns
-    is-enough-requires
+    is-build-count-requires
     returns-2
     all-in-range-requires
     returns-3
