@@ -12,7 +12,8 @@ use Rattle.guide.specs.Choice.{choose}
 use Rattle.guide.specs.Sizes.{baseMost}
 use Rattle.guide.specs.Limits.{Limits, limitsOf, beyondControl}
 use Rattle.guide.specs.Rejection.{without, afterRound, RejectionAnswer}
-use Rattle.guide.proofs.Rejection.{choose-shorter, round-shorter, round-whole, rejection-ends, rejection-goes-on, rejection-counts}
+use Rattle.guide.proofs.Rejection.{choose-shorter, round-shorter, round-removes-nothing, rejection-ends, rejection-goes-on}
+use Rattle.guide.proofs.Rejection.{rejection-counts}
 use Rattle.guide.proofs.Rejection.{rejection-rounds}
 use Rattle.chart.specs.declared.rejection.Standing.{Standing}
 use Rattle.chart.specs.declared.rejection.Rejected.{Rejected}
@@ -22,11 +23,11 @@ use Rattle.chart.proofs.Places.{take-pad, pad-snoc}
 
 -- ---- the words that are not marked
 
-pub unmarked-few : (ms : List Bool) (ws : List ℤ) → length (unmarked ms ws) ≤ length ws
+pub unmarked-shorter : (ms : List Bool) (ws : List ℤ) → length (unmarked ms ws) ≤ length ws
 unfolding unmarked
-unmarked-few [] ws = omega arith
-unmarked-few (m ∷ ms) [] = omega arith
-unmarked-few (m ∷ ms) (w ∷ ws) = choose-shorter m w (unmarked ms ws) (length ws) (unmarked-few ms ws)
+unmarked-shorter [] ws = omega arith
+unmarked-shorter (m ∷ ms) [] = omega arith
+unmarked-shorter (m ∷ ms) (w ∷ ws) = choose-shorter m w (unmarked ms ws) (length ws) (unmarked-shorter ms ws)
 
 -- a mark and a word more
 choose-snoc : (t : Bool) (w : ℤ) (r s e : List ℤ) → s ≡ r ++ e → choose t s (w ∷ s) ≡ choose t r (w ∷ r) ++ e
@@ -64,7 +65,7 @@ module _ (ms : List Bool) (ws : List ℤ) (i : ℕ) (a : List ℤ) (n : ℕ) (im
       (unmarked-snoc (take i ms) (take i ws) m (getD ws i (pos 0)) (lm ∙ sym lw))
 
   pub moved-few : n ≤ i
-  moved-few = omega (arith, h .count, unmarked-few (take i ms) (take i ws), length-take-le i ws (omega arith))
+  moved-few = omega (arith, h .count, unmarked-shorter (take i ms) (take i ws), length-take-le i ws (omega arith))
 
   pub turn-marked : (a′ : List ℤ) (n′ : ℕ) → getD ms i false ≡ true → a′ ≡ a → n′ ≡ n → Moved ms ws (i + 1) a′ n′
   turn-marked a′ n′ t p q = rw (next true t, append-nil) (record { words = p ∙ h .words; count = q ∙ h .count })
@@ -100,7 +101,7 @@ module _ (kind : ℕ) (ws : List ℤ) (left : Standing) (h : Holds (afterRound k
       let r = sym (rejection-ends kind ws s) in
       let base = ap (λ (x : RejectionAnswer). x .base) r in
       record {
-        words = h .words ∙ ap (pad (pos 0) baseMost) (round-whole kind ws s .0 ∙ base);
+        words = h .words ∙ ap (pad (pos 0) baseMost) (round-removes-nothing kind ws s .0 ∙ base);
         count = e ∙ ap length base;
         rounds = ap (λ (x : RejectionAnswer). x .rounds) r;
         removed = ap (λ (x : RejectionAnswer). x .removed) r;

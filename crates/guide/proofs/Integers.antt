@@ -2,18 +2,21 @@
 -- of such differences are differences again, and what is left is a statement of ℕ, which `omega` proves.
 use mathlib.Core.Path.{_≡_, refl, sym, ap, _∙_}
 use mathlib.Core.Bool.{Bool, true, false, cond}
-use Prim.Native.Nat.{ℕ, zero, suc, _+_, _*_, _-_, _<_, _≤_, _^_}
+use Prim.Native.Nat.{ℕ, zero, suc, _+_, _*_, _-_, _<_, _≤_}
 use native.Mathlib.Omega.{arith}
 use lib.Dec.{ltb}
 use lib.Signed.{ltZ}
 use lib.IntN.{ℤ, pos, negsuc, natAbs, subℕ, negℤ, _+ℤ_, _-ℤ_, _*ℤ_}
-use mir.Syntax.{Width}
-use mir.Val.{SFits, hbits}
+use Rattle.guide.proofs.Booleans.{by-test}
 use borrow.Author.Tests.{ltb-true, ltb-false, lt-ltb, le-ltb}
 
 -- how far apart two naturals are
 abbrev pub distance : ℕ → ℕ → ℕ
 distance a b = (a - b) + (b - a)
+
+-- the one order or the other
+pub by-order {ℓ} : {P : Type ℓ} (a b : ℕ) → (b ≤ a → P) → (a < b → P) → P
+by-order a b f g = by-test (ltb a b) (λ t. g (ltb-true a b t)) (λ t. f (ltb-false a b t))
 
 -- ---- a − b of two naturals, by its sign
 
@@ -64,7 +67,7 @@ sub-times n a b =
 
 -- ---- the distance of two naturals
 
-pub distance-square : (a b : ℕ) → distance a b * distance a b + 2 * (a * b) ≡ a * a + b * b
+distance-square : (a b : ℕ) → distance a b * distance a b + 2 * (a * b) ≡ a * a + b * b
 distance-square a b =
     sub-cases a b (λ z. distance a b * distance a b + 2 * (a * b) ≡ a * a + b * b)
     (λ k p. let e : distance a b ≡ k = omega arith in rw (e, p) (omega arith))
@@ -77,9 +80,9 @@ sub-magnitude a b = sub-cases a b (λ z. natAbs z ≡ distance a b) (λ k p. ome
 
 same-test : (a b c d : ℕ) → (a < b → c < d) → (b ≤ a → d ≤ c) → ltb a b ≡ ltb c d
 same-test a b c d f g =
-    sub-cases a b (λ z. ltb a b ≡ ltb c d)
-    (λ k p. le-ltb a b (omega arith) ∙ sym (le-ltb c d (g (omega arith))))
-    (λ k p. lt-ltb a b (omega arith) ∙ sym (lt-ltb c d (f (omega arith))))
+    by-order a b
+    (λ h. le-ltb a b h ∙ sym (le-ltb c d (g h)))
+    (λ h. lt-ltb a b h ∙ sym (lt-ltb c d (f h)))
 
 sub-below : (a b : ℕ) → ltZ (subℕ a b) (pos 0) ≡ ltb a b
 sub-below a b =
@@ -99,20 +102,20 @@ pub of-neg : {n : ℕ} → Diff (negsuc n) 0 (suc n)
 of-neg {n} = record { is = sym (sub-neg 0 (suc n) n (omega arith)) }
 
 -- the two parts of any integer, of which one is 0
-abbrev pub up : ℤ → ℕ
-up (pos n) = n
-up (negsuc n) = 0
+abbrev pub plusPart : ℤ → ℕ
+plusPart (pos n) = n
+plusPart (negsuc n) = 0
 
-abbrev pub down : ℤ → ℕ
-down (pos n) = 0
-down (negsuc n) = suc n
+abbrev pub minusPart : ℤ → ℕ
+minusPart (pos n) = 0
+minusPart (negsuc n) = suc n
 
-pub of-any : (z : ℤ) → Diff z (up z) (down z)
+pub of-any : (z : ℤ) → Diff z (plusPart z) (minusPart z)
 of-any (pos n) = of-pos
 of-any (negsuc n) = of-neg
 
-pub recast : {z : ℤ} {a b : ℕ} (c d : ℕ) → Diff z a b → a + d ≡ c + b → Diff z c d
-recast {a = a} {b = b} c d p e = record { is = p .is ∙ sub-same a b c d e }
+pub same-difference : {z : ℤ} {a b : ℕ} (c d : ℕ) → Diff z a b → a + d ≡ c + b → Diff z c d
+same-difference {a = a} {b = b} c d p e = record { is = p .is ∙ sub-same a b c d e }
 
 pub plus : {z y : ℤ} {a b c d : ℕ} → Diff z a b → Diff y c d → Diff (z +ℤ y) (a + c) (b + d)
 plus {y = y} {a = a} {b = b} {c = c} {d = d} p q =
@@ -143,31 +146,28 @@ pub squared : {z : ℤ} {a b : ℕ} → Diff z a b → Diff (z *ℤ z) (a * a + 
 squared {z} {a} {b} p =
     let m = natAbs z * natAbs z in
     let q : Diff (z *ℤ z) m 0 = record { is = square-magnitude z ∙ of-pos {n = m} .is } in
-    recast (a * a + b * b) (2 * (a * b)) q (omega (arith, square-of p))
+    same-difference (a * a + b * b) (2 * (a * b)) q (omega (arith, square-of p))
 
 -- ---- what a difference says
 
 pub is-pos : {z : ℤ} {a b : ℕ} (k : ℕ) → Diff z a b → a ≡ b + k → z ≡ pos k
 is-pos {a = a} {b = b} k p e = p .is ∙ sub-pos a b k e
 
--- z is below 0 where c is below d, whichever differences the two are
+-- z is below 0 exactly if c < d, where a < b and c < d are shown to go together
 pub is-below : {z : ℤ} {a b : ℕ} → Diff z a b → (c d : ℕ) → (a < b → c < d) → (b ≤ a → d ≤ c) → ltZ z (pos 0) ≡ ltb c d
 is-below {a = a} {b = b} p c d f g = ap (λ (x : ℤ). ltZ x (pos 0)) (p .is) ∙ sub-below a b ∙ same-test a b c d f g
 
-pub equal : {z y : ℤ} {a b c d : ℕ} → Diff z a b → Diff y c d → a + d ≡ c + b → z ≡ y
-equal {c = c} {d = d} p q e = recast c d p e .is ∙ sym (q .is)
-
 -- the parts of one integer
-sub-parts : (a b : ℕ) → up (subℕ a b) + b ≡ a + down (subℕ a b)
-sub-parts a b = sub-cases a b (λ z. up z + b ≡ a + down z) (λ k p. omega arith) (λ k p. omega arith)
+sub-parts : (a b : ℕ) → plusPart (subℕ a b) + b ≡ a + minusPart (subℕ a b)
+sub-parts a b = sub-cases a b (λ z. plusPart z + b ≡ a + minusPart z) (λ k p. omega arith) (λ k p. omega arith)
 
-pub parts : {z : ℤ} {a b : ℕ} → Diff z a b → up z + b ≡ a + down z
+pub parts : {z : ℤ} {a b : ℕ} → Diff z a b → plusPart z + b ≡ a + minusPart z
 parts {z} {a} {b} p = rw (p .is) (sub-parts a b)
 
 pub agree : {z y : ℤ} {a b c d : ℕ} → Diff z a b → Diff y c d → z ≡ y → a + d ≡ c + b
-agree {z} {y} {a} {b} {c} {d} p q e = omega (arith, parts p, parts q, ap up e, ap down e)
+agree {z} {y} {a} {b} {c} {d} p q e = omega (arith, parts p, parts q, ap plusPart e, ap minusPart e)
 
--- ---- magnitudes, and what fits a width
+-- ---- magnitudes
 
 pub magnitude-plus : (z y : ℤ) → natAbs (z +ℤ y) ≤ natAbs z + natAbs y
 magnitude-plus z y = omega (arith, magnitude (plus (of-any z) (of-any y)), magnitude (of-any z), magnitude (of-any y))
@@ -178,7 +178,3 @@ magnitude-negated z = omega (arith, magnitude (negated (of-any z)), magnitude (o
 pub magnitude-times : (n : ℕ) (z : ℤ) → natAbs (pos n *ℤ z) ≡ n * natAbs z
 magnitude-times n (pos k) = refl
 magnitude-times n (negsuc k) = magnitude-negated (pos (n * suc k))
-
-pub small-fits : {w : Width} {z : ℤ} → natAbs z < 2 ^ hbits w → SFits w z
-small-fits {z = pos n} h = record { sfits = h }
-small-fits {z = negsuc n} h = record { sfits = omega arith }

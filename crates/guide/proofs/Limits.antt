@@ -2,7 +2,7 @@
 -- `squared-deviations`: n·V is the sum of the squared deviations, so V is never negative (`v-natural`).
 -- `exceeds-natural`: the comparison with a limit, in natural numbers. `few-beyond`: how many words can lie beyond m·S.
 use mathlib.Core.Path.{_≡_, refl, sym, ap, _∙_}
-use mathlib.Core.Bool.{Bool, true, false}
+use mathlib.Core.Bool.{Bool, true}
 use mathlib.Core.List.{List, [], _∷_, _++_, map-append}
 use Prim.Native.Nat.{ℕ, suc, _+_, _*_, _-_, _<_, _≤_}
 use native.Mathlib.Omega.{arith}
@@ -12,19 +12,20 @@ use lib.Dec.{ltb}
 use lib.Signed.{ltZ}
 use lib.IntN.{ℤ, pos, negsuc, natAbs, _+ℤ_, _-ℤ_, _*ℤ_, +ℤ-assoc, +ℤ-idl, +ℤ-idr}
 use borrow.Author.Tests.{ltb-true}
-use Rattle.guide.specs.Choice.{choose}
 use Rattle.guide.specs.Kind.{hasLower}
 use Rattle.guide.specs.Limits.{squareOf, sumBy, deviationSquares}
 use Rattle.guide.specs.Limits.{Sums, sumOf, sumOfSquares, sumsOf, vOf, scaledDeviation, exceeds, above, below, Limits, beyondUpper}
 use Rattle.guide.specs.Limits.{beyondLower, beyond}
 use Rattle.guide.specs.Rejection.{without}
 use Rattle.guide.proofs.Booleans.{both, either}
-use Rattle.guide.proofs.Integers.{sub-cases, Diff, of-pos, of-neg, of-any, up, down, recast, plus, minus, times, square-of, squared}
+use Rattle.guide.proofs.Without.{without-ind}
+use Rattle.guide.proofs.Integers.{by-order, Diff, of-pos, of-neg, of-any, plusPart, minusPart, same-difference, plus, minus, times}
+use Rattle.guide.proofs.Integers.{square-of, squared}
 use Rattle.guide.proofs.Integers.{square-magnitude, is-pos, agree}
 
 -- ---- T and Q in natural numbers
 
-pub sum-is : (ws : List ℤ) → Diff (sumOf ws) (sumBy up ws) (sumBy down ws)
+pub sum-is : (ws : List ℤ) → Diff (sumOf ws) (sumBy plusPart ws) (sumBy minusPart ws)
 unfolding sumOf sumBy
 sum-is [] = of-pos
 sum-is (w ∷ ws) = plus (of-any w) (sum-is ws)
@@ -51,47 +52,47 @@ sums-snoc ws w = rw (length-append, sum-snoc, map-append, sum-snoc)
 
 -- (k·w − (c − d))², for any k, c and d: its parts that are added and those that are taken away
 module _ (k c d : ℕ) where
-  more : ℤ → ℕ
-  more w = k * k * squareOf w + 2 * k * (up w * d + down w * c) + (c * c + d * d)
+  added : ℤ → ℕ
+  added w = k * k * squareOf w + 2 * k * (plusPart w * d + minusPart w * c) + (c * c + d * d)
 
-  less : ℤ → ℕ
-  less w = 2 * k * (up w * c + down w * d) + 2 * (c * d)
+  taken : ℤ → ℕ
+  taken w = 2 * k * (plusPart w * c + minusPart w * d) + 2 * (c * d)
 
-  square-around : (w s : ℤ) → Diff s c d → squareOf (pos k *ℤ w -ℤ s) + less w ≡ more w
-  unfolding more less
+  square-around : (w s : ℤ) → Diff s c d → squareOf (pos k *ℤ w -ℤ s) + taken w ≡ added w
+  unfolding added taken
   square-around w s p = omega (arith, square-of (minus (times k (of-any w)) p), ap (λ (x : ℕ). k * k * x) (square-of (of-any w)))
 
-  squares-around : (s : ℤ) → Diff s c d → (ws : List ℤ) → sumBy (λ w. squareOf (pos k *ℤ w -ℤ s)) ws + sumBy less ws ≡ sumBy more ws
+  squares-around : (s : ℤ) → Diff s c d → (ws : List ℤ) → sumBy (λ w. squareOf (pos k *ℤ w -ℤ s)) ws + sumBy taken ws ≡ sumBy added ws
   unfolding sumBy
   squares-around s p [] = omega arith
   squares-around s p (w ∷ ws) = omega (arith, square-around w s p, squares-around s p ws)
 
-  sum-more : (ws : List ℤ)
-      → sumBy more ws ≡ k * k * sumBy squareOf ws + 2 * k * (sumBy up ws * d + sumBy down ws * c) + length ws * (c * c + d * d)
-  unfolding sumBy more
-  sum-more [] = omega arith
-  sum-more (w ∷ ws) = omega (arith, sum-more ws)
+  sum-added : (ws : List ℤ)
+      → sumBy added ws ≡ k * k * sumBy squareOf ws + 2 * k * (sumBy plusPart ws * d + sumBy minusPart ws * c) + length ws * (c * c + d * d)
+  unfolding sumBy added
+  sum-added [] = omega arith
+  sum-added (w ∷ ws) = omega (arith, sum-added ws)
 
-  sum-less : (ws : List ℤ) → sumBy less ws ≡ 2 * k * (sumBy up ws * c + sumBy down ws * d) + length ws * (2 * (c * d))
-  unfolding sumBy less
-  sum-less [] = omega arith
-  sum-less (w ∷ ws) = omega (arith, sum-less ws)
+  sum-taken : (ws : List ℤ) → sumBy taken ws ≡ 2 * k * (sumBy plusPart ws * c + sumBy minusPart ws * d) + length ws * (2 * (c * d))
+  unfolding sumBy taken
+  sum-taken [] = omega arith
+  sum-taken (w ∷ ws) = omega (arith, sum-taken ws)
 
-v-is : (ws : List ℤ) → let c = sumBy up ws in let d = sumBy down ws in
+v-is : (ws : List ℤ) → let c = sumBy plusPart ws in let d = sumBy minusPart ws in
     Diff (vOf (sumsOf ws)) (length ws * sumBy squareOf ws + 2 * (c * d)) (c * c + d * d)
 unfolding vOf sumsOf
 v-is ws =
     let q : Diff (sumOfSquares ws) (sumBy squareOf ws) 0 = record { is = squares-are ws ∙ of-pos {n = sumBy squareOf ws} .is } in
-    recast _ _ (minus (times (length ws) q) (squared (sum-is ws))) (omega arith)
+    same-difference _ _ (minus (times (length ws) q) (squared (sum-is ws))) (omega arith)
 
 pub squared-deviations : (ws : List ℤ) → pos (length ws) *ℤ vOf (sumsOf ws) ≡ pos (deviationSquares (sumsOf ws) ws)
 unfolding scaledDeviation sumsOf
 squared-deviations ws =
     let n = length ws in
-    let c = sumBy up ws in
-    let d = sumBy down ws in
+    let c = sumBy plusPart ws in
+    let d = sumBy minusPart ws in
     is-pos (sumBy (λ w. squareOf (pos n *ℤ w -ℤ sumOf ws)) ws) (times n (v-is ws))
-    (omega (arith, squares-around n c d (sumOf ws) (sum-is ws) ws, sum-more n c d ws, sum-less n c d ws))
+    (omega (arith, squares-around n c d (sumOf ws) (sum-is ws) ws, sum-added n c d ws, sum-taken n c d ws))
 
 -- ---- V is never negative
 
@@ -140,24 +141,18 @@ beyond-exceeds m limits w t =
 -- ---- how many words lie beyond m·S
 
 -- where c·f is at least b for each word that a test removes, the words removed, b times each, are within c times the sum of f
-choose-count : (t : Bool) (w : ℤ) (r : List ℤ) (n b s x : ℕ) → n * b ≤ length r * b + s → (t ≡ true → b ≤ x)
-    → suc n * b ≤ length (choose t r (w ∷ r)) * b + (x + s)
-choose-count true w r n b s x h k = omega (arith, k refl)
-choose-count false w r n b s x h k = omega arith
-
 removed-count : (test : ℤ → Bool) (f : ℤ → ℕ) (b c : ℕ) → ((w : ℤ) → test w ≡ true → b ≤ f w * c)
     → (ws : List ℤ) → length ws * b ≤ length (without test ws) * b + sumBy f ws * c
-unfolding without sumBy
-removed-count test f b c h [] = omega arith
-removed-count test f b c h (w ∷ ws) =
-    omega (arith, choose-count (test w) w (without test ws) (length ws) b (sumBy f ws * c) (f w * c) (removed-count test f b c h ws) (h w))
+unfolding sumBy
+removed-count test f b c h =
+    without-ind test (λ ws left. length ws * b ≤ length left * b + sumBy f ws * c) (omega arith)
+    (λ w ws left t k. omega (arith, h w t, k))
+    (λ w ws left t k. omega (arith, k))
 
--- j words removed of n, each with a squared deviation above m²·x / (n − 1), where x is the sum of all n: m²·j < n − 1, or j is 0
+-- where one more than j words each take up more than m²·x / c, and x is what all take up, m²·(j + 1) is below c
 few : (m j c x : ℕ) → suc j * (m * m * x + 1) ≤ x * c → m * m * suc j < c
 few m j c x h =
-    sub-cases (m * m * suc j) c (λ z. m * m * suc j < c)
-    (λ k p. let q : c ≤ m * m * suc j = omega arith in absurd (omega (arith, mul-le-mul-left x q)))
-    (λ k p. omega arith)
+    by-order (m * m * suc j) c (λ q. absurd (omega (arith, mul-le-mul-left x q))) (λ q. q)
 
 -- of n words, a test that only words beyond m·S pass removes so few that m² times their number is below n − 1, or none
 pub few-beyond : (m : ℕ) (ws : List ℤ) (test : ℤ → Bool)

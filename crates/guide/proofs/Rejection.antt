@@ -2,7 +2,7 @@
 -- rest follows by it: rounds and removals are counted as the paper counts, the words left are in their old order, none is
 -- beyond the limits of the words left, and of ten words or more at least ten are left.
 use mathlib.Core.Path.{_≡_, refl, ap}
-use mathlib.Core.Bool.{Bool, true, false, _&&_, not}
+use mathlib.Core.Bool.{true}
 use mathlib.Core.List.{List, [], _∷_}
 use Prim.Native.Nat.{ℕ, zero, suc, _+_, _*_, _-_, _<_, _≤_}
 use native.Mathlib.Omega.{arith}
@@ -12,50 +12,12 @@ use lib.IntN.{ℤ}
 use borrow.Author.Tests.{eqb-true, eqb-false, eq-eqb, ne-eqb}
 use Rattle.guide.specs.Choice.{choose}
 use Rattle.guide.specs.Sizes.{baseLeast}
-use Rattle.guide.specs.Limits.{limitsOf, beyondControl}
+use Rattle.guide.specs.Limits.{limitsOf, controlMultiple, beyondControl}
 use Rattle.guide.specs.Rejection.{without, afterRound, RejectionAnswer, lastRound, oneMoreRound, rejectionWithin, rejection, noneOf}
 use Rattle.guide.specs.Rejection.{InOrder, none, kept, removed}
 use Rattle.guide.proofs.Booleans.{by-test}
+use Rattle.guide.proofs.Without.{without-shorter, without-keeps-order, RemovesNothing, without-removes-nothing}
 use Rattle.guide.proofs.Limits.{beyond-exceeds, few-beyond}
-
--- ---- the words without those that pass a test
-
-pub choose-shorter : (t : Bool) (w : ℤ) (r : List ℤ) (n : ℕ) → length r ≤ n → length (choose t r (w ∷ r)) ≤ suc n
-choose-shorter true w r n h = omega arith
-choose-shorter false w r n h = omega arith
-
-pub without-shorter : (test : ℤ → Bool) (ws : List ℤ) → length (without test ws) ≤ length ws
-unfolding without
-without-shorter test [] = omega arith
-without-shorter test (w ∷ ws) = choose-shorter (test w) w (without test ws) (length ws) (without-shorter test ws)
-
--- a test that removes nothing leaves the words as they are, and none of them passes it
-record Whole (test : ℤ → Bool) (ws : List ℤ) : Type 0 where
-  same : without test ws ≡ ws
-  untouched : noneOf test ws ≡ true
-
-choose-whole : (test : ℤ → Bool) (t : Bool) (w : ℤ) (ws : List ℤ) → t ≡ test w
-    → length (without test ws) ≤ length ws → (length (without test ws) ≡ length ws → Whole test ws)
-    → length (choose t (without test ws) (w ∷ without test ws)) ≡ suc (length ws)
-    → (choose t (without test ws) (w ∷ without test ws) ≡ w ∷ ws) × ((not t && noneOf test ws) ≡ true)
-choose-whole test true w ws p h k e = absurd (omega arith)
-choose-whole test false w ws p h k e = let r = k (omega arith) in (ap (λ (x : List ℤ). w ∷ x) (r .same), r .untouched)
-
-without-whole : (test : ℤ → Bool) (ws : List ℤ) → length (without test ws) ≡ length ws → Whole test ws
-unfolding without noneOf
-without-whole test [] e = record { same = refl; untouched = refl }
-without-whole test (w ∷ ws) e =
-    let r = choose-whole test (test w) w ws refl (without-shorter test ws) (without-whole test ws) e in
-    record { same = r .0; untouched = r .1 }
-
-choose-in-order : (t : Bool) (w : ℤ) (r ws : List ℤ) → InOrder r ws → InOrder (choose t r (w ∷ r)) (w ∷ ws)
-choose-in-order true w r ws h = removed h
-choose-in-order false w r ws h = kept h
-
-without-in-order : (test : ℤ → Bool) (ws : List ℤ) → InOrder (without test ws) ws
-unfolding without
-without-in-order test [] = none
-without-in-order test (w ∷ ws) = choose-in-order (test w) w (without test ws) ws (without-in-order test ws)
 
 -- ---- the old order
 
@@ -75,29 +37,30 @@ pub round-shorter : (kind : ℕ) (ws : List ℤ) → length (afterRound kind ws)
 unfolding afterRound
 round-shorter kind ws = without-shorter (beyondControl (limitsOf kind ws)) ws
 
-pub round-in-order : (kind : ℕ) (ws : List ℤ) → InOrder (afterRound kind ws) ws
+round-keeps-order : (kind : ℕ) (ws : List ℤ) → InOrder (afterRound kind ws) ws
 unfolding afterRound
-round-in-order kind ws = without-in-order (beyondControl (limitsOf kind ws)) ws
+round-keeps-order kind ws = without-keeps-order (beyondControl (limitsOf kind ws)) ws
 
 -- a round that removes nothing leaves the words, none of which is beyond their own limits
-pub round-whole : (kind : ℕ) (ws : List ℤ) → length (afterRound kind ws) ≡ length ws
-    → (afterRound kind ws ≡ ws) × (noneOf (beyondControl (limitsOf kind ws)) ws ≡ true)
+pub round-removes-nothing : (kind : ℕ) (ws : List ℤ) → length (afterRound kind ws) ≡ length ws
+    → RemovesNothing (beyondControl (limitsOf kind ws)) ws (afterRound kind ws)
 unfolding afterRound
-round-whole kind ws e = let r = without-whole (beyondControl (limitsOf kind ws)) ws e in (r .same, r .untouched)
+round-removes-nothing kind ws = without-removes-nothing (beyondControl (limitsOf kind ws)) ws
 
 -- 9·j < n − 1 for j words removed of n, by the law for any multiple: so of ten or more ten are left
-ten-left : (n left j : ℕ) → 10 ≤ n → n ≡ left + j → ((i : ℕ) → j ≡ suc i → 3 * 3 * suc i < n - 1) → 10 ≤ left
+ten-left : (n left j : ℕ) → baseLeast ≤ n → n ≡ left + j → ((i : ℕ) → j ≡ suc i → controlMultiple * controlMultiple * suc i < n - 1)
+    → baseLeast ≤ left
 ten-left n left zero h e f = omega arith
 ten-left n left (suc i) h e f = omega (arith, f i refl)
 
-pub round-ten : (kind : ℕ) (ws : List ℤ) → baseLeast ≤ length ws → baseLeast ≤ length (afterRound kind ws)
+round-leaves-ten : (kind : ℕ) (ws : List ℤ) → baseLeast ≤ length ws → baseLeast ≤ length (afterRound kind ws)
 unfolding afterRound limitsOf beyondControl
-round-ten kind ws h =
+round-leaves-ten kind ws h =
     let test = beyondControl (limitsOf kind ws) in
     let left = length (without test ws) in
     let short = without-shorter test ws in
     ten-left (length ws) left (length ws - left) h (omega arith)
-    (λ i e. few-beyond 3 ws test (λ w t. beyond-exceeds 3 (limitsOf kind ws) w t) i (omega arith))
+    (λ i e. few-beyond controlMultiple ws test (λ w t. beyond-exceeds controlMultiple (limitsOf kind ws) w t) i (omega arith))
 
 -- ---- rejection
 
@@ -159,20 +122,20 @@ rejection-rounds kind =
     rejection-ind kind (λ ws r. (1 ≤ r .rounds) × (r .rounds ≤ suc (r .removed))) (λ ws e. omega arith) (λ ws r s h. omega arith)
 
 -- the words left are in their old order
-pub rejection-in-order : (kind : ℕ) (ws : List ℤ) → InOrder (rejection kind ws .base) ws
-rejection-in-order kind =
+pub rejection-keeps-order : (kind : ℕ) (ws : List ℤ) → InOrder (rejection kind ws .base) ws
+rejection-keeps-order kind =
     rejection-ind kind (λ ws r. InOrder (r .base) ws) (λ ws e. in-order-same ws)
-    (λ ws r s h. in-order-chain h (round-in-order kind ws))
+    (λ ws r s h. in-order-chain h (round-keeps-order kind ws))
 
 -- no word left is beyond the control limits of the words left
-pub rejection-settles : (kind : ℕ) (ws : List ℤ) → let base = rejection kind ws .base in
+pub rejection-leaves-none-beyond : (kind : ℕ) (ws : List ℤ) → let base = rejection kind ws .base in
     noneOf (beyondControl (limitsOf kind base)) base ≡ true
-rejection-settles kind =
-    rejection-ind kind (λ ws r. noneOf (beyondControl (limitsOf kind (r .base))) (r .base) ≡ true) (λ ws e. round-whole kind ws e .1)
+rejection-leaves-none-beyond kind =
+    rejection-ind kind (λ ws r. noneOf (beyondControl (limitsOf kind (r .base))) (r .base) ≡ true) (λ ws e. round-removes-nothing kind ws e .none-passes)
     (λ ws r s h. h)
 
 -- of ten words or more at least ten are left
-pub rejection-ten : (kind : ℕ) (ws : List ℤ) → baseLeast ≤ length ws → baseLeast ≤ length (rejection kind ws .base)
-rejection-ten kind =
+pub rejection-leaves-ten : (kind : ℕ) (ws : List ℤ) → baseLeast ≤ length ws → baseLeast ≤ length (rejection kind ws .base)
+rejection-leaves-ten kind =
     rejection-ind kind (λ ws r. baseLeast ≤ length ws → baseLeast ≤ length (r .base)) (λ ws e h. h)
-    (λ ws r s f h. f (round-ten kind ws h))
+    (λ ws r s f h. f (round-leaves-ten kind ws h))

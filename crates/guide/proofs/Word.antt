@@ -6,7 +6,7 @@ use native.Mathlib.Omega.{arith}
 use native.Mathlib.Nat.{div-add-mod', div-eq-of-lt-le, mod-lt}
 use lib.IntN.{ℤ, pos, negsuc, negℤ}
 use Rattle.guide.specs.Word.{nearestNatural, nearest, IsNearest}
-use Rattle.guide.proofs.Integers.{sub-cases, distance, of-pos, of-neg, negated, minus, times, magnitude, magnitude-negated}
+use Rattle.guide.proofs.Integers.{by-order, distance, of-pos, of-neg, negated, minus, times, magnitude, magnitude-negated}
 
 -- ---- natural numbers
 
@@ -38,26 +38,24 @@ nearest-is (negsuc n) d h =
     record { close = omega arith; away = λ e. omega (arith, ap (λ (x : ℕ). d * x) (magnitude-negated (pos r))) }
 
 -- x is within d / 2 of n, and not just d / 2 below it
-not-below : (n x d m : ℕ) → m ≡ distance x n → 2 * m ≤ d → (2 * m ≡ d → n < x) → 2 * n < 2 * x + d
-not-below n x d m e close away =
-    sub-cases (2 * n) (2 * x + d) (λ z. 2 * n < 2 * x + d)
-    (λ k p. absurd (omega (arith, away (omega arith))))
-    (λ k p. omega arith)
+not-half-below : (n x d m : ℕ) → m ≡ distance x n → 2 * m ≤ d → (2 * m ≡ d → n < x) → 2 * n < 2 * x + d
+not-half-below n x d m e close away =
+    by-order (2 * n) (2 * x + d) (λ h. absurd (omega (arith, away (omega arith)))) (λ h. h)
 
 pub nearest-only : (z : ℤ) (d : ℕ) (r : ℤ) → 0 < d → IsNearest z d r → r ≡ nearest z d
 unfolding nearest
 nearest-only (pos n) d (pos k) h i =
     let m = magnitude (minus (times d (of-pos {n = k})) (of-pos {n = n})) in
-    ap pos (natural-only n d k (omega (arith, i .close)) (not-below n (d * k) d _ (omega arith) (i .close) (i .away)))
+    ap pos (natural-only n d k (omega (arith, i .close)) (not-half-below n (d * k) d _ (omega arith) (i .close) (i .away)))
 nearest-only (pos n) d (negsuc k) h i =
     absurd (omega (arith, i .close, magnitude (minus (times d (of-neg {n = k})) (of-pos {n = n}))))
 nearest-only (negsuc n) d (pos zero) h i =
     let m = magnitude (minus (times d (of-pos {n = 0})) (of-neg {n = n})) in
     ap (λ (x : ℕ). negℤ (pos x))
-    (natural-only (suc n) d 0 (omega arith) (not-below (suc n) (d * 0) d _ (omega arith) (i .close) (i .away)))
+    (natural-only (suc n) d 0 (omega arith) (not-half-below (suc n) (d * 0) d _ (omega arith) (i .close) (i .away)))
 nearest-only (negsuc n) d (pos (suc k)) h i =
     absurd (omega (arith, i .close, magnitude (minus (times d (of-pos {n = suc k})) (of-neg {n = n}))))
 nearest-only (negsuc n) d (negsuc k) h i =
     let m = magnitude (minus (times d (of-neg {n = k})) (of-neg {n = n})) in
     ap (λ (x : ℕ). negℤ (pos x))
-    (natural-only (suc n) d (suc k) (omega (arith, i .close)) (not-below (suc n) (d * suc k) d _ (omega arith) (i .close) (i .away)))
+    (natural-only (suc n) d (suc k) (omega (arith, i .close)) (not-half-below (suc n) (d * suc k) d _ (omega arith) (i .close) (i .away)))

@@ -1,7 +1,7 @@
 -- Document 01, "Base, limits, rejection": what building answers.
 use mathlib.Core.Bool.{Bool, true, _&&_}
 use mathlib.Core.List.{List, [], _∷_}
-use Prim.Native.Nat.{ℕ}
+use Prim.Native.Nat.{ℕ, zero, suc}
 use lib.ListN.{length}
 use lib.Dec.{leb}
 use lib.IntN.{ℤ}
@@ -29,10 +29,17 @@ pub data BuildingAnswer : Type 0 where
 abbrev pub builtFrom : ℕ → RejectionAnswer → BuildingAnswer
 builtFrom kind r = built (fresh kind (r .base)) (r .rounds) (r .removed)
 
--- 1 "kind not 1..3", 2 "not 15..32 words", 3 "a word out of range"
+-- the number of the first condition that does not hold, or 0: 1 "kind not 1..3", 2 "not 15..32 words", 3 "a word out of range"
+unfoldable pub buildRefusal : ℕ → List ℤ → ℕ
+buildRefusal kind words =
+    require (isKind kind) 1
+    (require (isBuildCount words) 2
+    (require (allInRange kind words) 3
+    0))
+
+abbrev pub orRefused : ℕ → BuildingAnswer → BuildingAnswer
+orRefused zero answer = answer
+orRefused (suc n) answer = refused (suc n)
+
 unfoldable pub building : ℕ → List ℤ → BuildingAnswer
-building kind words =
-    require (isKind kind) (refused 1)
-    (require (isBuildCount words) (refused 2)
-    (require (allInRange kind words) (refused 3)
-    (builtFrom kind (rejection kind words))))
+building kind words = orRefused (buildRefusal kind words) (builtFrom kind (rejection kind words))

@@ -4,7 +4,7 @@
 use mathlib.Core.Bool.{Bool, _&&_, _||_}
 use Prim.Native.Nat.{ℕ}
 use lib.Dec.{leb, eqb}
-use lib.IntN.{ℤ, pos, negsuc}
+use lib.IntN.{ℤ, pos, negℤ}
 use lib.Signed.{leZ}
 use Rattle.guide.specs.Choice.{choose}
 
@@ -21,8 +21,14 @@ unfoldable pub ignoresThird : ℕ → Bool
 ignoresThird kind = eqb kind 1 || eqb kind 2
 
 -- "Kind 1 words lie in 0..20000, the others in −20000..20000."
+abbrev pub wordMost : ℕ
+wordMost = 20000
+
+unfoldable pub wordLeast : ℕ → ℤ
+wordLeast kind = byKind kind (pos 0) (negℤ (pos wordMost)) (negℤ (pos wordMost))
+
 unfoldable pub inRange : ℕ → ℤ → Bool
-inRange kind w = leZ (byKind kind (pos 0) (negsuc 19999) (negsuc 19999)) w && leZ w (pos 20000)
+inRange kind w = leZ (wordLeast kind) w && leZ w (pos wordMost)
 
 -- "Kind 1 has only the upper ones": kinds 2 and 3 have lower limits too
 unfoldable pub hasLower : ℕ → Bool

@@ -9,8 +9,11 @@ use Rattle.guide.specs.Choice.{require}
 use Rattle.guide.specs.Kind.{isKind, byKind, ignoresThird, inRange}
 
 -- "Readings are whole numbers from 0 to 1,000,000,000"
+abbrev pub readingMost : ℕ
+readingMost = 1000000000
+
 unfoldable pub isReading : ℤ → Bool
-isReading x = leZ (pos 0) x && leZ x (pos 1000000000)
+isReading x = leZ (pos 0) x && leZ x (pos readingMost)
 
 -- every number that the kind takes is a reading
 unfoldable pub areReadings : ℕ → ℤ → ℤ → ℤ → Bool
@@ -43,8 +46,8 @@ pub record IsNearest (z : ℤ) (d : ℕ) (r : ℤ) : Type 0 where
   pub away : 2 * natAbs (pos d *ℤ r -ℤ z) ≡ d → natAbs z < d * natAbs r
 
 -- the quotient so rounded. Readings are not negative, so the divisor is its own absolute value; a divisor of 0 is declined before
-unfoldable pub quotient : ℕ → ℤ → ℤ → ℤ → ℤ
-quotient kind a b c = nearest (numerator kind a b c) (natAbs (divisor kind a b c))
+unfoldable pub roundedQuotient : ℕ → ℤ → ℤ → ℤ → ℤ
+roundedQuotient kind a b c = nearest (numerator kind a b c) (natAbs (divisor kind a b c))
 
 -- a word, or the number for what is declined
 pub data Formed : Type 0 where
@@ -57,8 +60,8 @@ unfoldable pub fromReading : ℕ → ℤ → ℤ → ℤ → Formed
 fromReading kind a b c =
     require (areReadings kind a b c) (refused 5)
     (require (not (eqb (natAbs (divisor kind a b c)) 0)) (refused 6)
-    (require (inRange kind (quotient kind a b c)) (refused 7)
-    (formed (quotient kind a b c))))
+    (require (inRange kind (roundedQuotient kind a b c)) (refused 7)
+    (formed (roundedQuotient kind a b c))))
 
 -- "A word can also be formed alone": 1 "kind not 1..3" comes before 5, 6, 7
 unfoldable pub wordAlone : ℕ → ℤ → ℤ → ℤ → Formed

@@ -9,7 +9,7 @@ use mir.Val.{SFits}
 use mir.Facts.{toZ-ofZ}
 use Rattle.guide.specs.Choice.{require}
 use Rattle.guide.specs.Kind.{inRange}
-use Rattle.guide.specs.Word.{formed, refused, areReadings, quotient, fromReading}
+use Rattle.guide.specs.Word.{formed, refused, areReadings, roundedQuotient, fromReading}
 use Rattle.words.specs.Formed.{formedSays, IsQuotient}
 use Rattle.words.proofs.Laws.{in-range-fits, numerator-is}
 use Rattle.words.proofs.from_reading.Statement.{statement}
@@ -48,7 +48,7 @@ range-tested c = rw (toZ-ofZ (word-fits (c .before))) at (c .in-range .ensures)
 -- where 5 and 6 are not the answer, the test of the range decides
 answer : (c : tie.After-in-range)
     → given fromReading (start-at c) ≡ require (c .in-range .result) (refused 7) (formed (c .before .nearest-to .result))
-unfolding fromReading quotient
+unfolding fromReading roundedQuotient
 answer c =
     let q = quotient-at c in
     let is = is-quotient q in
