@@ -2,6 +2,7 @@
 pub mod Integers
 pub mod Held
 pub mod Booleans
+pub mod Kind
 pub mod Word
 pub mod Without
 pub mod Limits

@@ -1,9 +1,9 @@
 -- Laws of rounding: `nearest` is a nearest whole number, of two the one farther from zero (`nearest-is`), and nothing else is
 -- (`nearest-only`). `natural-only` is the same of natural numbers, by the bounds that a quotient has.
-use mathlib.Core.Path.{_≡_, sym, ap}
-use Prim.Native.Nat.{ℕ, zero, suc, _+_, _*_, _%_, _<_, _≤_}
+use mathlib.Core.Path.{_≡_, refl, sym, ap}
+use Prim.Native.Nat.{ℕ, zero, suc, _+_, _-_, _*_, _/_, _%_, _<_, _≤_}
 use native.Mathlib.Omega.{arith}
-use native.Mathlib.Nat.{div-add-mod', div-eq-of-lt-le, mod-lt}
+use native.Mathlib.Nat.{div-add-mod', div-eq-of-lt-le, mod-lt, mul-le-mul-left}
 use lib.IntN.{ℤ, pos, negsuc, negℤ}
 use Rattle.guide.specs.Word.{nearestNatural, nearest, IsNearest}
 use Rattle.guide.proofs.Integers.{by-order, distance, of-pos, of-neg, negated, minus, times, magnitude, magnitude-negated}
@@ -59,3 +59,33 @@ nearest-only (negsuc n) d (negsuc k) h i =
     let m = magnitude (minus (times d (of-neg {n = k})) (of-neg {n = n})) in
     ap (λ (x : ℕ). negℤ (pos x))
     (natural-only (suc n) d (suc k) (omega (arith, i .close)) (not-half-below (suc n) (d * suc k) d _ (omega arith) (i .close) (i .away)))
+
+-- ---- natural numbers, by a quotient and what is left over
+
+pub half-or-more : (n d : ℕ) → 0 < d → d - n % d ≤ n % d → n / d + 1 ≡ nearestNatural n d
+half-or-more n d h t =
+    let parts = div-add-mod' n d in
+    let left = mod-lt n h in
+    natural-only n d (n / d + 1) (omega arith) (omega arith)
+
+-- one more than the quotient is no more than the numerator, where something is left over
+pub one-more-small : (n d : ℕ) → 0 < d → d - n % d ≤ n % d → n / d + 1 ≤ n
+one-more-small n d h t =
+    let parts = div-add-mod' n d in
+    let left = mod-lt n h in
+    omega (arith, mul-le-mul-left (n / d) h)
+
+pub less-than-half : (n d : ℕ) → n % d < d - n % d → n / d ≡ nearestNatural n d
+less-than-half n d t =
+    let parts = div-add-mod' n d in
+    natural-only n d (n / d) (omega arith) (omega arith)
+
+-- ---- the sign goes through rounding
+
+nearest-of-zero : (d : ℕ) → 0 < d → 0 ≡ nearestNatural 0 d
+nearest-of-zero d h = natural-only 0 d 0 (omega arith) (omega arith)
+
+pub nearest-negative : (n d : ℕ) → 0 < d → negℤ (pos (nearestNatural n d)) ≡ nearest (negℤ (pos n)) d
+unfolding nearest
+nearest-negative zero d h = rw (← nearest-of-zero d h)
+nearest-negative (suc n) d h = refl

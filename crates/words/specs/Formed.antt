@@ -1,7 +1,7 @@
 -- What the types of `words` say in the paper's terms.
 use mathlib.Core.Path.{_≡_}
 use mathlib.Core.Bool.{Bool, true, false}
-use Prim.Native.Nat.{ℕ, _*_, _≤_}
+use Prim.Native.Nat.{ℕ, _≤_, _<_, _^_}
 use lib.IntN.{ℤ, pos, natAbs, negℤ}
 use lib.Signed.{ltZ}
 use Rattle.guide.specs.Word as guide
@@ -22,12 +22,12 @@ signed false n = pos n
 -- the natural number n is the reading x
 pub record ReadingIs (x : ℤ) (n : ℕ) : Type 0 where
   pub same : pos n ≡ x
-  pub small : n ≤ 1000000000
+  pub small : n ≤ guide.readingMost
 
--- q is the quotient of the paper before it is rounded, by the sign and the size of its numerator, which is small enough for the rounded
+-- q is the quotient of the paper before it is rounded, by the sign and the magnitude of its numerator, which is small enough for the rounded
 -- quotient to fit sixty-four signed bits
 pub record IsQuotient (kind : ℕ) (a b c : ℤ) (q : Quotient) : Type 0 where
   pub is-sign : q .negative ≡ ltZ (guide.numerator kind a b c) (pos 0)
-  pub is-size : q .numerator ≡ natAbs (guide.numerator kind a b c)
+  pub is-magnitude : q .numerator ≡ natAbs (guide.numerator kind a b c)
   pub is-divisor : q .divisor ≡ natAbs (guide.divisor kind a b c)
-  pub small : q .numerator ≤ 20000 * 1000000000
+  pub small : q .numerator < 2 ^ 63

@@ -7,10 +7,18 @@
 // Tests are joined by `&` and `|`, which evaluate both sides: none can overflow, and the result is the definition's own expression.
 ghost use mathlib.Core.Path.{_≡_};
 ghost use mathlib.Core.Bool.{true};
-ghost use Prim.Native.Nat.{_+_, _-_, _*_, _≤_, _<_};
+ghost use Prim.Native.Nat.{_+_, _-_, _^_, _≤_, _<_};
 ghost use Rattle.guide.specs.Kind.{isKind, inRange};
-ghost use Rattle.guide.specs.Word.{isReading, areReadings, nearest, nearestNatural, fromReading, wordAlone};
+ghost use Rattle.guide.specs.Word.{isReading, areReadings, nearestNatural, fromReading, wordAlone};
+ghost use Rattle.guide.specs.Word as guide;
 ghost use Rattle.words.specs.Formed.{formedSays, signed, ReadingIs, IsQuotient};
+
+// The range of words; for kind 1 it starts at 0.
+const WORD_LEAST: i64 = -20000;
+
+const WORD_MOST: i64 = 20000;
+
+const READING_MOST: i64 = 1000000000;
 
 pub enum Formed {
     Word(i16),
@@ -51,7 +59,7 @@ pub fn from_reading(kind: u16, a: i64, b: i64, c: i64) -> Formed
     if q.divisor == 0 {
         return Formed::Refused(6);
     }
-    let w = nearest_to(q);
+    let w = nearest(q);
     if !in_range(kind, w) {
         return Formed::Refused(7);
     }
@@ -63,9 +71,9 @@ pub fn in_range(kind: u16, w: i64) -> bool
     ensures { λ r. ⌜ r ≡ inRange kind w ⌝ }
 {
     if kind == 1 {
-        return (0 <= w) & (w <= 20000);
+        return (0 <= w) & (w <= WORD_MOST);
     }
-    (-20000 <= w) & (w <= 20000)
+    (WORD_LEAST <= w) & (w <= WORD_MOST)
 }
 
 // Kinds 1 and 2 ignore the third number, whatever it is.
@@ -78,7 +86,7 @@ fn are_readings(kind: u16, a: i64, b: i64, c: i64) -> bool
 fn is_reading(x: i64) -> bool
     ensures { λ r. ⌜ r ≡ isReading x ⌝ }
 {
-    (0 <= x) & (x <= 1000000000)
+    (0 <= x) & (x <= READING_MOST)
 }
 
 fn quotient_of(kind: u16, a: i64, b: i64, c: i64) -> Quotient
@@ -123,9 +131,9 @@ fn distance_of(x: u64, y: u64) -> u64
 }
 
 // The nearest whole number, halves away from zero.
-fn nearest_to(q: Quotient) -> i64
-    requires { ⌜ (0 < q .divisor) × (q .numerator ≤ 20000 * 1000000000) ⌝ }
-    ensures { λ r. ⌜ r ≡ nearest (signed (q .negative) (q .numerator)) (q .divisor) ⌝ }
+fn nearest(q: Quotient) -> i64
+    requires { ⌜ (0 < q .divisor) × (q .numerator < 2 ^ 63) ⌝ }
+    ensures { λ r. ⌜ r ≡ guide.nearest (signed (q .negative) (q .numerator)) (q .divisor) ⌝ }
 {
     let w = nearest_natural(q.numerator, q.divisor) as i64;
     if q.negative { -w } else { w }
@@ -133,8 +141,8 @@ fn nearest_to(q: Quotient) -> i64
 
 // The whole quotient, and one more where what is left over is half of the divisor or more.
 fn nearest_natural(numerator: u64, divisor: u64) -> u64
-    requires { ⌜ (0 < divisor) × (numerator ≤ 20000 * 1000000000) ⌝ }
-    ensures { λ r. ⌜ (r ≡ nearestNatural numerator divisor) × (r ≤ numerator + 1) ⌝ }
+    requires { ⌜ 0 < divisor ⌝ }
+    ensures { λ r. ⌜ (r ≡ nearestNatural numerator divisor) × (r ≤ numerator) ⌝ }
 {
     let whole = numerator / divisor;
     let left = numerator % divisor;

@@ -1,3 +1,4 @@
+-- `words::are_readings` meets its contract.
 use borrow.Author.Needs.{needs}
 use mir.Facts.{toZ-ofZ}
 use Rattle.guide.specs.Kind.{ignoresThird}

@@ -1,3 +1,4 @@
+-- `words::from_reading` meets its contract.
 use mathlib.Core.Path.{_≡_, sym, _∙_}
 use mathlib.Core.Bool.{true}
 use Prim.Native.Nat.{ℕ}
@@ -11,7 +12,9 @@ use Rattle.guide.specs.Choice.{require}
 use Rattle.guide.specs.Kind.{inRange}
 use Rattle.guide.specs.Word.{formed, refused, areReadings, roundedQuotient, fromReading}
 use Rattle.words.specs.Formed.{formedSays, IsQuotient}
-use Rattle.words.proofs.Laws.{in-range-fits, numerator-is}
+use Rattle.guide.proofs.Booleans.{answered-no, answered-yes}
+use Rattle.guide.proofs.Kind.{in-range-fits}
+use Rattle.words.proofs.Readings.{numerator-is}
 use Rattle.words.proofs.from_reading.Statement.{statement}
 use Rattle.words.proofs.from_reading.Tie as tie
 
@@ -32,22 +35,22 @@ readings-tested c =
     rw (toZ-ofZ (fits .a), toZ-ofZ (fits .b), toZ-ofZ (fits .c)) at (c .are-readings .ensures)
 
 readings-hold : (c : tie.Else1) → given areReadings (c .before .before) ≡ true
-readings-hold c = sym (readings-tested (c .before)) ∙ not-false (c .before .are-readings .result) (c .if1 .left)
+readings-hold c = answered-yes (readings-tested (c .before)) (c .if1 .left)
 
 is-quotient : (c : tie.After-quotient-of) → given IsQuotient (c .before .before .before) (c .quotient-of .result)
 is-quotient c =
     let fits = c .before .before .before .fits in
     rw (toZ-ofZ (fits .a), toZ-ofZ (fits .b), toZ-ofZ (fits .c)) at (c .quotient-of .ensures)
 
-word-fits : (c : tie.After-nearest-to) → SFits w64 (c .nearest-to .result)
-word-fits c = record { sfits = c .nearest-to .ok }
+word-fits : (c : tie.After-nearest) → SFits w64 (c .nearest .result)
+word-fits c = record { sfits = c .nearest .ok }
 
-range-tested : (c : tie.After-in-range) → c .in-range .result ≡ inRange (start-at c .args .kind) (c .before .nearest-to .result)
+range-tested : (c : tie.After-in-range) → c .in-range .result ≡ inRange (start-at c .args .kind) (c .before .nearest .result)
 range-tested c = rw (toZ-ofZ (word-fits (c .before))) at (c .in-range .ensures)
 
 -- where 5 and 6 are not the answer, the test of the range decides
 answer : (c : tie.After-in-range)
-    → given fromReading (start-at c) ≡ require (c .in-range .result) (refused 7) (formed (c .before .nearest-to .result))
+    → given fromReading (start-at c) ≡ require (c .in-range .result) (refused 7) (formed (c .before .nearest .result))
 unfolding fromReading roundedQuotient
 answer c =
     let q = quotient-at c in
@@ -58,7 +61,7 @@ answer c =
       ← is .is-divisor,
       ne-eqb (q .quotient-of .result .divisor) 0 (c .before .before .if2 .left),
       ← numerator-is (args .kind) (args .a) (args .b) (args .c) (q .quotient-of .result) is,
-      ← c .before .nearest-to .ensures,
+      ← c .before .nearest .ensures,
       ← range-tested c,
     )
 
@@ -67,12 +70,11 @@ are-readings-requires c κs = search needs
 
 returns : tie.Need-returns
 unfolding formedSays fromReading
-returns c = rw (← readings-tested (c .before), not-true (c .before .are-readings .result) (c .if1 .taken))
+returns c = rw (answered-no (readings-tested (c .before)) (c .if1 .taken))
 
 quotient-of-requires : tie.Need-quotient-of-requires
 quotient-of-requires c κs =
-    let tested = c .before .are-readings in
-    sym (tested .ensures) ∙ not-false (tested .result) (c .if1 .left)
+    answered-yes (c .before .are-readings .ensures) (c .if1 .left)
 
 returns-2 : tie.Need-returns-2
 unfolding formedSays fromReading
@@ -80,8 +82,8 @@ returns-2 c =
     let q = c .before .before in
     rw (readings-hold (q .before), ← is-quotient q .is-divisor, eq-eqb (q .quotient-of .result .divisor) 0 (c .if2 .taken))
 
-nearest-to-requires : tie.Need-nearest-to-requires
-nearest-to-requires c κs = search needs
+nearest-requires : tie.Need-nearest-requires
+nearest-requires c κs = search needs
 
 in-range-requires : tie.Need-in-range-requires
 in-range-requires c κs = search needs
@@ -94,10 +96,10 @@ returns-3 c = rw (answer (c .before), not-true (c .before .in-range .result) (c 
 in-range : (c : tie.Else3) → c .before .in-range .result ≡ true
 in-range c = not-false (c .before .in-range .result) (c .if3 .left)
 
-kept-word : (c : tie.Else3) → SFits w16 (c .before .before .nearest-to .result)
+kept-word : (c : tie.Else3) → SFits w16 (c .before .before .nearest .result)
 kept-word c =
     let tested = c .before in
-    in-range-fits (start-at tested .args .kind) (tested .before .nearest-to .result) (sym (range-tested tested) ∙ in-range c)
+    in-range-fits (start-at tested .args .kind) (tested .before .nearest .result) (sym (range-tested tested) ∙ in-range c)
 
 cast-t9 : tie.Need-cast-t9
 cast-t9 c = rw (toZ-ofZ (word-fits (c .before .before))) (kept-word c)
@@ -114,7 +116,7 @@ from-reading-spec =
     returns
     quotient-of-requires
     returns-2
-    nearest-to-requires
+    nearest-requires
     in-range-requires
     returns-3
     cast-t9

@@ -1,13 +1,16 @@
+-- `words::in_range` meets its contract.
 use borrow.Author.Tests.{eq-eqb, ne-eqb}
 use mir.Facts.{toZ-ofZ}
 use Rattle.guide.specs.Kind.{inRange}
-use Rattle.words.proofs.Laws.{least-of-others}
+use Rattle.guide.proofs.Kind.{least-of-duplicates, least-of-others}
 use Rattle.words.proofs.in_range.Statement.{statement}
 use Rattle.words.proofs.in_range.Tie as tie
 
 returns : tie.Need-returns
 unfolding inRange
-returns c = rw (toZ-ofZ (c .before .fits .w), eq-eqb (c .before .args .kind) 1 (c .if1 .taken))
+returns c =
+    let kind = c .before .args .kind in
+    rw (toZ-ofZ (c .before .fits .w), least-of-duplicates kind (eq-eqb kind 1 (c .if1 .taken)))
 
 returns-2 : tie.Need-returns-2
 unfolding inRange

@@ -1,3 +1,4 @@
+-- `words::is_kind` meets its contract.
 use mathlib.Core.Path.{refl}
 use Rattle.guide.specs.Kind.{isKind}
 use Rattle.words.proofs.is_kind.Statement.{statement}

@@ -1,3 +1,4 @@
+-- `words::is_reading` meets its contract.
 use mir.Facts.{toZ-ofZ}
 use Rattle.guide.specs.Word.{isReading}
 use Rattle.words.proofs.is_reading.Statement.{statement}

@@ -1,7 +1,8 @@
+-- `words::reading` meets its contract.
 use native.Mathlib.Omega.{arith}
 use lib.Signed.{pos-natAbs}
 use mir.Facts.{toZ-ofZ}
-use Rattle.words.proofs.Laws.{reading-natural}
+use Rattle.words.proofs.Readings.{reading-natural}
 use Rattle.words.proofs.reading.Statement.{statement}
 use Rattle.words.proofs.reading.Tie as tie
 

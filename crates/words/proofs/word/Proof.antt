@@ -1,5 +1,6 @@
+-- `words::word` meets its contract.
 use borrow.Author.Needs.{needs}
-use borrow.Author.Tests.{not-true, not-false}
+use Rattle.guide.proofs.Booleans.{answered-no, answered-yes}
 use mir.Facts.{toZ-ofZ}
 use Rattle.guide.specs.Word.{wordAlone}
 use Rattle.words.specs.Formed.{formedSays}
@@ -11,7 +12,7 @@ is-kind-requires c κs = search needs
 
 returns : tie.Need-returns
 unfolding formedSays wordAlone
-returns c = rw (← c .before .is-kind .ensures, not-true (c .before .is-kind .result) (c .if1 .taken))
+returns c = rw (answered-no (c .before .is-kind .ensures) (c .if1 .taken))
 
 from-reading-requires : tie.Need-from-reading-requires
 from-reading-requires c κs = search needs
@@ -19,9 +20,8 @@ from-reading-requires c κs = search needs
 returns-2 : tie.Need-returns-2
 unfolding wordAlone
 returns-2 c =
-    let kind = c .before .before .is-kind in
     let fits = c .before .before .before .fits in
-    rw (← kind .ensures, not-false (kind .result) (c .before .if1 .left))
+    rw (answered-yes (c .before .before .is-kind .ensures) (c .before .if1 .left))
     (rw (toZ-ofZ (fits .a), toZ-ofZ (fits .b), toZ-ofZ (fits .c)) at (c .from-reading .ensures))
 
 pub word-spec : {M : Type 1} → statement M

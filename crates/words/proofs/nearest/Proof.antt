@@ -1,3 +1,4 @@
+-- `words::nearest` meets its contract.
 use mathlib.Core.Path.{_≡_, ap, _∙_}
 use native.Mathlib.Omega.{arith}
 use lib.IntN.{pos, negℤ, _-ℤ_, +ℤ-idl}
@@ -6,10 +7,11 @@ use mir.Val.{SFits, toZ}
 use mir.Facts.{toZ-ofZ, toZ-pos}
 use borrow.Author.Needs.{needs}
 use Rattle.guide.specs.Word.{nearest}
-use Rattle.guide.proofs.Integers.{magnitude-negated, small-fits}
-use Rattle.words.proofs.Laws.{nearest-negative}
-use Rattle.words.proofs.nearest_to.Statement.{statement}
-use Rattle.words.proofs.nearest_to.Tie as tie
+use Rattle.guide.proofs.Integers.{magnitude-negated}
+use Rattle.guide.proofs.Held.{small-fits}
+use Rattle.guide.proofs.Word.{nearest-negative}
+use Rattle.words.proofs.nearest.Statement.{statement}
+use Rattle.words.proofs.nearest.Tie as tie
 
 nearest-natural-requires : tie.Need-nearest-natural-requires
 nearest-natural-requires c κs = search needs
@@ -40,5 +42,5 @@ returns-2 : tie.Need-returns-2
 unfolding nearest
 returns-2 c = rw (held (c .before), c .if1 .left, c .before .nearest-natural .ensures .0)
 
-pub nearest-to-spec : {M : Type 1} → statement M
-nearest-to-spec = tie.close (tie.spec nearest-natural-requires cast-w sub-result returns returns-2)
+pub nearest-spec : {M : Type 1} → statement M
+nearest-spec = tie.close (tie.spec nearest-natural-requires cast-w sub-result returns returns-2)

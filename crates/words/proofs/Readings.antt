@@ -1,28 +1,24 @@
--- Laws of readings, quotients and rounding, over plain numbers.
+-- Laws of readings, and of the quotient that each kind forms of them.
 use mathlib.Core.Path.{_≡_, refl, sym}
 use mathlib.Core.Bool.{true, false, _&&_, _||_, false≢true}
-use Prim.Native.Nat.{ℕ, zero, suc, _+_, _-_, _*_, _/_, _%_, _≤_, _<_}
-use native.Mathlib.Nat.{div-add-mod', mod-lt}
+use Prim.Native.Nat.{ℕ, _+_, _*_, _≤_}
 use native.Mathlib.Omega.{arith}
-use lib.Dec.{T, ltb, leb, eqb}
-use lib.IntN.{ℤ, pos, negsuc, natAbs, negℤ, _-ℤ_, _*ℤ_}
-use lib.Signed.{nonNeg, ltZ, leZ}
-use mir.Syntax.{w16}
-use mir.Val.{SFits}
+use lib.Dec.{T, ltb, leb}
+use lib.IntN.{ℤ, pos, negsuc, natAbs, _-ℤ_, _*ℤ_}
+use lib.Signed.{nonNeg, ltZ}
 use borrow.Author.Tests.{leb-true, le-ltb, eq-eqb, ne-eqb}
-use Rattle.guide.specs.Kind.{byKind, ignoresThird, inRange}
-use Rattle.guide.specs.Word.{isReading, areReadings, numerator, divisor, nearestNatural, nearest}
-use Rattle.guide.proofs.Booleans.{both, by-test}
-use Rattle.guide.proofs.Word.{natural-only}
+use Rattle.guide.specs.Kind.{ignoresThird}
+use Rattle.guide.specs.Word.{readingMost, isReading, areReadings, numerator, divisor}
+use Rattle.guide.proofs.Booleans.{both}
 use Rattle.guide.proofs.Integers.{distance, of-pos, minus, times, magnitude, magnitude-times, is-below}
 use Rattle.words.specs.declared.Quotient.{Quotient}
 use Rattle.words.specs.Formed.{signed, ReadingIs, IsQuotient}
 
 -- ---- readings
 
-pub reading-natural : (x : ℤ) → isReading x ≡ true → T (nonNeg x) × (natAbs x ≤ 1000000000)
+pub reading-natural : (x : ℤ) → isReading x ≡ true → T (nonNeg x) × (natAbs x ≤ readingMost)
 unfolding isReading
-reading-natural (pos n) h = (tt, leb-true n 1000000000 (both (leb 0 n) (leb n 1000000000) h .1))
+reading-natural (pos n) h = (tt, leb-true n readingMost (both (leb 0 n) (leb n readingMost) h .1))
 reading-natural (negsuc n) h = absurd (false≢true h)
 
 -- what the test of three numbers says
@@ -48,7 +44,7 @@ signed-is (negsuc n) = refl
 
 pub numerator-is : (kind : ℕ) (a b c : ℤ) (q : Quotient) → IsQuotient kind a b c q
     → signed (q .negative) (q .numerator) ≡ numerator kind a b c
-numerator-is kind a b c q h = rw (h .is-sign, h .is-size) (signed-is (numerator kind a b c))
+numerator-is kind a b c q h = rw (h .is-sign, h .is-magnitude) (signed-is (numerator kind a b c))
 
 not-below : (n : ℕ) → false ≡ ltZ (pos n) (pos 0)
 not-below n = sym (le-ltb n 0 (omega arith))
@@ -66,7 +62,7 @@ module _ {kind x y : ℕ} {a b c : ℤ} (first : ReadingIs a x) (second : Readin
   unfolding numerator divisor
   duplicate-quotient {d} one e = record {
     is-sign = rw (eq-eqb kind 1 one) (not-below (20000 * natAbs (a -ℤ b)));
-    is-size = rw (eq-eqb kind 1 one, ← first .same, ← second .same, distance-is x y, e);
+    is-magnitude = rw (eq-eqb kind 1 one, ← first .same, ← second .same, distance-is x y, e);
     is-divisor = rw (eq-eqb kind 1 one, ← first .same, ← second .same);
     small = omega arith;
   }
@@ -75,7 +71,7 @@ module _ {kind x y : ℕ} {a b c : ℤ} (first : ReadingIs a x) (second : Readin
   unfolding numerator divisor
   check-quotient not-one two = record {
     is-sign = rw (ne-eqb kind 1 not-one, eq-eqb kind 2 two, ← first .same) (not-below (10000 * x));
-    is-size = rw (ne-eqb kind 1 not-one, eq-eqb kind 2 two, ← first .same);
+    is-magnitude = rw (ne-eqb kind 1 not-one, eq-eqb kind 2 two, ← first .same);
     is-divisor = rw (ne-eqb kind 1 not-one, eq-eqb kind 2 two, ← second .same);
     small = omega arith;
   }
@@ -85,44 +81,7 @@ module _ {kind x y : ℕ} {a b c : ℤ} (first : ReadingIs a x) (second : Readin
   unfolding numerator divisor
   spike-quotient {d} not-one not-two e third = record {
     is-sign = rw (ne-eqb kind 1 not-one, ne-eqb kind 2 not-two, ← first .same, ← second .same) (difference-below x y);
-    is-size = rw (ne-eqb kind 1 not-one, ne-eqb kind 2 not-two, ← first .same, ← second .same, magnitude-times, distance-is x y, e);
+    is-magnitude = rw (ne-eqb kind 1 not-one, ne-eqb kind 2 not-two, ← first .same, ← second .same, magnitude-times, distance-is x y, e);
     is-divisor = rw (ne-eqb kind 1 not-one, ne-eqb kind 2 not-two, ← third .same);
     small = omega arith;
   }
-
--- ---- words
-
-pub least-of-others : (kind : ℕ) → eqb kind 1 ≡ false → byKind kind (pos 0) (negsuc 19999) (negsuc 19999) ≡ negsuc 19999
-least-of-others kind t = rw t (by-test (eqb kind 2) (λ u. rw u) (λ u. rw u))
-
--- a word in range fits two bytes
-pub in-range-fits : (kind : ℕ) (w : ℤ) → inRange kind w ≡ true → SFits w16 w
-unfolding inRange
-in-range-fits kind (pos n) h =
-    let least = byKind kind (pos 0) (negsuc 19999) (negsuc 19999) in
-    omega (arith, leb-true n 20000 (both (leZ least (pos n)) (leb n 20000) h .1))
-in-range-fits kind (negsuc n) h =
-    by-test (eqb kind 1)
-    (λ t. absurd (false≢true (rw t at h)))
-    (λ t. omega (arith, leb-true n 19999 (both (leb n 19999) true (rw (least-of-others kind t) at h) .0)))
-
--- ---- rounding
-
-pub half-or-more : (n d : ℕ) → 0 < d → d - n % d ≤ n % d → n / d + 1 ≡ nearestNatural n d
-half-or-more n d h t =
-    let parts = div-add-mod' n d in
-    let left = mod-lt n h in
-    natural-only n d (n / d + 1) (omega arith) (omega arith)
-
-pub less-than-half : (n d : ℕ) → n % d < d - n % d → n / d ≡ nearestNatural n d
-less-than-half n d t =
-    let parts = div-add-mod' n d in
-    natural-only n d (n / d) (omega arith) (omega arith)
-
-nearest-of-zero : (d : ℕ) → 0 < d → 0 ≡ nearestNatural 0 d
-nearest-of-zero d h = natural-only 0 d 0 (omega arith) (omega arith)
-
-pub nearest-negative : (n d : ℕ) → 0 < d → negℤ (pos (nearestNatural n d)) ≡ nearest (negℤ (pos n)) d
-unfolding nearest
-nearest-negative zero d h = rw (← nearest-of-zero d h)
-nearest-negative (suc n) d h = refl
