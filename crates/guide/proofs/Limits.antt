@@ -13,7 +13,7 @@ use lib.Signed.{ltZ}
 use lib.IntN.{ℤ, pos, negsuc, natAbs, _+ℤ_, _-ℤ_, _*ℤ_, +ℤ-assoc, +ℤ-idl, +ℤ-idr}
 use borrow.Author.Tests.{ltb-true}
 use Rattle.guide.specs.Kind.{hasLower}
-use Rattle.guide.specs.Limits.{squareOf, sumBy, deviationSquares}
+use Rattle.guide.specs.Limits.{withWord, squareOf, sumBy, deviationSquares}
 use Rattle.guide.specs.Limits.{Sums, sumOf, sumOfSquares, sumsOf, vOf, scaledDeviation, exceeds, above, below, Limits, beyondUpper}
 use Rattle.guide.specs.Limits.{beyondLower, beyond}
 use Rattle.guide.specs.Rejection.{without}
@@ -40,9 +40,6 @@ sum-snoc : (ws : List ℤ) (w : ℤ) → sumOf (ws ++ (w ∷ [])) ≡ sumOf ws +
 unfolding sumOf
 sum-snoc [] w = +ℤ-idr w ∙ sym (+ℤ-idl w)
 sum-snoc (x ∷ xs) w = ap (λ (z : ℤ). x +ℤ z) (sum-snoc xs w) ∙ sym (+ℤ-assoc x (sumOf xs) w)
-
-abbrev pub withWord : Sums → ℤ → Sums
-withWord s w = record { n = s .n + 1; t = s .t +ℤ w; q = s .q +ℤ w *ℤ w }
 
 pub sums-snoc : (ws : List ℤ) (w : ℤ) → sumsOf (ws ++ (w ∷ [])) ≡ withWord (sumsOf ws) w
 unfolding sumsOf sumOfSquares

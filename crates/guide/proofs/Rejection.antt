@@ -131,7 +131,8 @@ rejection-keeps-order kind =
 pub rejection-leaves-none-beyond : (kind : ℕ) (ws : List ℤ) → let base = rejection kind ws .base in
     noneOf (beyondControl (limitsOf kind base)) base ≡ true
 rejection-leaves-none-beyond kind =
-    rejection-ind kind (λ ws r. noneOf (beyondControl (limitsOf kind (r .base))) (r .base) ≡ true) (λ ws e. round-removes-nothing kind ws e .none-passes)
+    rejection-ind kind (λ ws r. noneOf (beyondControl (limitsOf kind (r .base))) (r .base) ≡ true)
+    (λ ws e. round-removes-nothing kind ws e .none-passes)
     (λ ws r s h. h)
 
 -- of ten words or more at least ten are left

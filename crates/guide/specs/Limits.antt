@@ -78,7 +78,11 @@ beyondControl limits w = beyond controlMultiple limits w
 unfoldable pub beyondWarning : Limits → ℤ → Bool
 beyondWarning limits w = beyond warningMultiple limits w
 
--- ---- what the laws of limits say
+-- ---- what the laws of limits and the functions that sum say
+
+-- the sums of one word more
+abbrev pub withWord : Sums → ℤ → Sums
+withWord s w = record { n = s .n + 1; t = s .t +ℤ w; q = s .q +ℤ w *ℤ w }
 
 -- the sum of f over some words
 unfoldable pub sumBy : (ℤ → ℕ) → List ℤ → ℕ

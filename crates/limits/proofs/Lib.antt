@@ -1,2 +1,5 @@
 mod Complement
-mod Bounds
+mod Spread
+mod Deviation
+mod Summing
+mod Comparison

@@ -1,5 +1,6 @@
 -- What the structs of `limits` say in the paper's terms, and the numbers that the sums of sixteen-bit words stay within.
 use mathlib.Core.Path.{_≡_}
+use mathlib.Core.List.{List}
 use Prim.Native.Nat.{ℕ, _*_, _≤_, _<_, _^_}
 use lib.IntN.{ℤ, pos, natAbs}
 use Rattle.guide.specs.Sizes.{baseMost}
@@ -17,19 +18,24 @@ abbrev pub limitsSay : Limits → guide.Limits
 limitsSay l = record { kind = l .kind; sums = sumsSay (l .sums) }
 
 -- the sums of at most 32 words of sixteen bits lie within these numbers, and V is not negative
-pub record OfBase (s : Sums) : Type 0 where
+pub record Bounded (s : Sums) : Type 0 where
   pub few : s .n ≤ baseMost
   pub sum : natAbs (s .t) ≤ 2 ^ 15 * s .n
   pub squares : s .q ≤ 2 ^ 30 * s .n
   pub v : natAbs (s .t) * natAbs (s .t) ≤ s .n * s .q
+
+-- s are the sums of the words
+pub record AreSums (ws : List ℤ) (s : Sums) : Type 0 where
+  pub same : sumsSay s ≡ guide.sumsOf ws
+  pub bounded : Bounded s
 
 -- a word is beyond the upper limit at the multiple m; beyond the lower one
 pub record IsBeyond (m : ℕ) (limits : guide.Limits) (w : ℤ) (b : BeyondLimits) : Type 0 where
   pub upper : b .upper ≡ guide.beyondUpper m limits w
   pub lower : b .lower ≡ guide.beyondLower m limits w
 
--- the two sides of the comparison of d with m·S fit 64 bits
+-- the two sides of the comparison of d with m·S fit 64 bits. The square of a d below 2^29, 31 times, is below 2^63
 pub record Comparable (m : ℕ) (s : Sums) (d : ℤ) : Type 0 where
-  pub base : OfBase s
+  pub bounded : Bounded s
   pub limit : m * m * (s .n * natAbs (guide.vOf (sumsSay s))) < 2 ^ 64
-  pub near : natAbs d < 2 ^ 29
+  pub deviation : natAbs d < 2 ^ 29

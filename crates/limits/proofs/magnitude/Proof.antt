@@ -3,18 +3,21 @@ use mathlib.Core.Path.{ap}
 use native.Mathlib.Omega.{arith}
 use lib.IntN.{natAbs}
 use mir.Facts.{toZ-ofZ}
-use Rattle.limits.proofs.Complement.{complement, natural}
+use Rattle.limits.proofs.Complement.{Complement, complement, natural}
 use Rattle.limits.proofs.magnitude.Statement.{statement}
 use Rattle.limits.proofs.magnitude.Tie as tie
 
+negative : (c : tie.Then1) → Complement (c .before .args .z)
+negative c = complement (c .before .args .z) (c .before .fits .z) (c .if1 .taken)
+
 cast-result : tie.Need-cast-result
-cast-result c = let k = complement (c .before .args .z) (c .before .fits .z) (c .if1 .taken) in rw (k .is) (tt, omega arith)
+cast-result c = rw (negative c .is) (tt, omega (arith, negative c))
 
 add-result : tie.Need-add-result
-add-result c = let k = complement (c .before .args .z) (c .before .fits .z) (c .if1 .taken) in rw (k .is) (omega arith)
+add-result c = rw (negative c .is) (omega (arith, negative c))
 
 returns : tie.Need-returns
-returns c = let k = complement (c .before .args .z) (c .before .fits .z) (c .if1 .taken) in rw (k .is) (omega arith)
+returns c = rw (negative c .is) (omega (arith, negative c))
 
 cast-result-2 : tie.Need-cast-result-2
 cast-result-2 c = natural (c .before .args .z) (c .before .fits .z) (c .if1 .left)

@@ -1,19 +1,15 @@
 -- `limits::square` meets its contract.
 use mathlib.Core.Path.{_≡_, ap, _∙_}
-use Prim.Native.Nat.{ℕ, _*_, _≤_, _^_}
+use Prim.Native.Nat.{ℕ, _*_}
 use native.Mathlib.Omega.{arith}
-use native.Mathlib.Nat.{mul-le-mul}
 use borrow.Author.Needs.{needs}
 use lib.IntN.{natAbs}
-use Rattle.guide.proofs.Held.{cast-word, cast-fits, word-small}
+use Rattle.guide.proofs.Held.{cast-word, cast-fits, word-square-small}
 use Rattle.limits.proofs.square.Statement.{statement}
 use Rattle.limits.proofs.square.Tie as tie
 
 size : (c : tie.After-magnitude) → c .magnitude .result ≡ natAbs (c .before .args .w)
 size c = c .magnitude .ensures ∙ ap natAbs (cast-word (c .before .fits .w))
-
-small : (c : tie.After-magnitude) → c .magnitude .result * c .magnitude .result ≤ 2 ^ 30
-small c = let b : c .magnitude .result ≤ 2 ^ 15 = omega (arith, size c, word-small (c .before .fits .w)) in omega (arith, mul-le-mul b b)
 
 cast-magnitude : tie.Need-cast-magnitude
 cast-magnitude c = cast-fits (c .fits .w)
@@ -22,10 +18,10 @@ magnitude-requires : tie.Need-magnitude-requires
 magnitude-requires c κs = search needs
 
 mul-result : tie.Need-mul-result
-mul-result c = omega (arith, small c)
+mul-result c = rw (size c) (omega (arith, word-square-small (c .before .fits .w)))
 
 returns : tie.Need-returns
-returns c = (ap (λ (x : ℕ). x * x) (size c), small c)
+returns c = ap (λ (x : ℕ). x * x) (size c)
 
 pub square-spec : {M : Type 1} → statement M
 square-spec = tie.close (tie.spec cast-magnitude magnitude-requires mul-result returns)

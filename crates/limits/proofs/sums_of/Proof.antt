@@ -1,5 +1,4 @@
 -- `limits::sums_of` meets its contract. The loop's invariant: the sums are those of the words passed.
-use mathlib.Core.Path.{_≡_, refl, ap, _∙_}
 use Prim.Native.Nat.{_≤_, _<_, _-_}
 use native.Mathlib.Omega.{arith}
 use borrow.Author.Needs.{needs, sfits-of}
@@ -7,20 +6,19 @@ use denote.Ref.{now}
 use lib.ListN.{length, take}
 use lib.Seq.{take-all, length-take-le}
 use Rattle.guide.specs.Sizes.{baseMost}
-use Rattle.guide.specs.Limits.{sumsOf}
-use Rattle.limits.specs.Sums.{sumsSay, OfBase}
-use Rattle.limits.proofs.Bounds.{of-none, count-is, of-one-more}
+use Rattle.limits.specs.Sums.{AreSums}
+use Rattle.limits.proofs.Summing.{of-none, count-is, of-one-more}
 use Rattle.limits.proofs.sums_of.Statement.{statement}
 use Rattle.limits.proofs.sums_of.Tie as tie
 
 abbrev Inv-loop : tie.InvT-loop
-Inv-loop words s₀ i₀ s i = (i ≤ length words) × (sumsSay s ≡ sumsOf (take i words)) × OfBase s
+Inv-loop words s₀ i₀ s i = (i ≤ length words) × AreSums (take i words) s
 
 abbrev μ-loop : tie.MeasureT-loop
 μ-loop words s₀ i₀ s i = length words - i
 
 loop-holds : tie.Need-loop-holds Inv-loop μ-loop
-loop-holds c = let b = of-none _ refl in (omega arith, b .0, b .1)
+loop-holds c = (omega arith, of-none)
 
 mul-with-word : tie.Need-mul-with-word Inv-loop μ-loop
 mul-with-word c = search needs
@@ -33,11 +31,11 @@ passed : (c : tie.In-loop Inv-loop μ-loop) → c .before .loop .s .n < baseMost
 passed c =
     let l = c .before .loop in
     let words = now (c .before .before .args .words) in
-    let count = count-is (l .s) (take (l .i) words) (l .inv .1) in
+    let count = count-is (take (l .i) words) (l .s) (l .inv .1) in
     omega (arith, length-take-le (l .i) words (l .inv .0), c .before .before .pre, c .loop-test .taken)
 
 with-word-requires : tie.Need-with-word-requires Inv-loop μ-loop
-with-word-requires c κs = (passed (c .before), c .before .before .loop .inv .2)
+with-word-requires c κs = (passed (c .before), c .before .before .loop .inv .1 .bounded)
 
 add-i : tie.Need-add-i Inv-loop μ-loop
 add-i c = search needs
@@ -50,14 +48,14 @@ loop-again c =
     let t = c .before .before in
     let l = t .before .loop in
     let more = of-one-more (l .s) (c .with-word .result) (now (t .before .before .args .words)) (l .i) (t .loop-test .taken)
-    (sfits-of (c .before .with-word-arg .given)) (l .inv .1) (l .inv .2) (passed t) (c .with-word .ensures) in
-    (omega arith, more .0, more .1)
+    (sfits-of (c .before .with-word-arg .given)) (l .inv .1) (passed t) (c .with-word .ensures) in
+    (omega arith, more)
 
 returns : tie.Need-returns Inv-loop μ-loop
 returns c =
     let l = c .before .loop in
     let words = now (c .before .before .args .words) in
-    (l .inv .1 ∙ ap sumsOf (take-all (l .i) words (c .loop-test .left)), l .inv .2)
+    rw (take-all (l .i) words (c .loop-test .left)) at (l .inv .1)
 
 pub sums-of-spec : {M : Type 1} → statement M
 sums-of-spec =

@@ -5,7 +5,7 @@ use native.Mathlib.Omega.{arith}
 use borrow.Author.Needs.{needs}
 use lib.IntN.{pos, natAbs}
 use mir.Facts.{toZ-ofZ}
-use Rattle.limits.proofs.Bounds.{nq-small, v-is, sum-fits}
+use Rattle.limits.proofs.Spread.{nq-small, v-is, sum-fits}
 use Rattle.limits.proofs.v_of.Statement.{statement}
 use Rattle.limits.proofs.v_of.Tie as tie
 

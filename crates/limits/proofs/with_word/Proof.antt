@@ -1,11 +1,14 @@
 -- `limits::with_word` meets its contract.
-use mathlib.Core.Path.{refl, ap, _∙_}
-use Prim.Native.Nat.{ℕ, _+_, _*_}
+use mathlib.Core.Path.{_≡_, sym, ap, _∙_}
+use Prim.Native.Nat.{ℕ, _+_}
 use borrow.Author.Needs.{needs}
-use lib.IntN.{ℤ, natAbs}
+use lib.IntN.{ℤ, pos, _+ℤ_}
 use mir.Facts.{toZ-ofZ}
-use Rattle.guide.proofs.Held.{cast-fits}
-use Rattle.limits.proofs.Bounds.{sum-with-held, sum-with-is}
+use native.Mathlib.Omega.{arith}
+use Rattle.guide.proofs.Held.{cast-fits, word-square-small}
+use Rattle.guide.specs.Limits.{squareOf}
+use Rattle.guide.proofs.Integers.{square-magnitude}
+use Rattle.limits.proofs.Deviation.{sum-with}
 use Rattle.limits.proofs.with_word.Statement.{statement}
 use Rattle.limits.proofs.with_word.Tie as tie
 
@@ -16,21 +19,27 @@ cast-t4 : tie.Need-cast-t4
 cast-t4 c = cast-fits (c .before .fits .w)
 
 add-t5 : tie.Need-add-t5
-add-t5 c = let a = c .before .before .before in sum-with-held (a .args .s) (a .pre .1) (a .args .w) (a .fits .w)
+add-t5 c = let a = c .before .before .before in sum-with (a .args .s) (a .pre .1) (a .args .w) (a .fits .w) .fits
 
 square-requires : tie.Need-square-requires
 square-requires c κs = search needs
 
+-- what the call gave is the word's square
+square : (c : tie.After-square) → c .square .result ≡ squareOf (c .before .before .before .before .args .w)
+square c = c .square .ensures ∙ ap squareOf (toZ-ofZ (c .before .before .before .before .fits .w))
+
 add-t7 : tie.Need-add-t7
-add-t7 c = search needs
+add-t7 c =
+    let a = c .before .before .before .before .before in
+    omega (arith, square (c .before), word-square-small (a .fits .w), a .pre .0, a .pre .1 .squares)
 
 returns : tie.Need-returns
 returns c =
-    let a = c .before .before .before .before .before in (
-      refl,
-      sum-with-is (a .args .s) (a .pre .1) (a .args .w) (a .fits .w),
-      ap (λ (x : ℕ). a .args .s .q + x) (c .before .square .ensures .0 ∙ ap (λ (z : ℤ). natAbs z * natAbs z) (toZ-ofZ (a .fits .w))),
-    )
+    let a = c .before .before .before .before .before in
+    let t = sum-with (a .args .s) (a .pre .1) (a .args .w) (a .fits .w) .is in
+    let q = ap (λ (x : ℕ). pos (a .args .s .q + x)) (square (c .before))
+    ∙ ap (λ (z : ℤ). pos (a .args .s .q) +ℤ z) (sym (square-magnitude (a .args .w))) in
+    λ i. record { n = a .args .s .n + 1; t = t i; q = q i }
 
 pub with-word-spec : {M : Type 1} → statement M
 with-word-spec = tie.close (tie.spec add-t3 cast-t4 add-t5 square-requires add-t7 returns)

@@ -1,20 +1,20 @@
--- `limits::exceeds_by` meets its contract.
+-- `limits::exceeds` meets its contract.
 use mathlib.Core.Path.{_≡_, ap, _∙_}
-use Prim.Native.Nat.{_≤_}
+use Prim.Native.Nat.{_≤_, _^_}
 use native.Mathlib.Omega.{arith}
 use native.Mathlib.Nat.{mul-le-mul}
 use borrow.Author.Needs.{needs}
 use lib.IntN.{natAbs}
 use mir.Facts.{toZ-ofZ}
-use Rattle.limits.proofs.Bounds.{exceeds-none, exceeds-is, limit-fits, nv-fits, square-small, square-fits}
-use Rattle.limits.proofs.exceeds_by.Statement.{statement}
-use Rattle.limits.proofs.exceeds_by.Tie as tie
+use Rattle.limits.proofs.Comparison.{exceeds-none, exceeds-is, limit-fits, nv-fits, square-small, square-fits}
+use Rattle.limits.proofs.exceeds.Statement.{statement}
+use Rattle.limits.proofs.exceeds.Tie as tie
 
 size : (c : tie.After-magnitude) → c .magnitude .result ≡ natAbs (c .before .before .args .d)
 size c = c .magnitude .ensures ∙ ap natAbs (toZ-ofZ (c .before .before .fits .d))
 
 returns : tie.Need-returns
-returns c = let a = c .before in exceeds-none (a .args .m) (a .args .s) (a .args .d) (a .pre .base) (c .if1 .taken)
+returns c = let a = c .before in exceeds-none (a .args .m) (a .args .s) (a .args .d) (a .pre .bounded) (c .if1 .taken)
 
 magnitude-requires : tie.Need-magnitude-requires
 magnitude-requires c κs = search needs
@@ -25,7 +25,7 @@ v-of-requires c κs = search needs
 mul-result : tie.Need-mul-result
 mul-result c =
     let a = c .before .before .before in
-    let h : a .args .m ≤ 65535 = omega (arith, a .fits .m) in
+    let h : a .args .m ≤ 2 ^ 16 = omega (arith, a .fits .m) in
     omega (arith, mul-le-mul h h)
 
 mul-result-2 : tie.Need-mul-result-2
@@ -56,8 +56,8 @@ returns-2 c =
     let a = c .before .before .before in
     exceeds-is (a .args .m) (a .args .s) (a .args .d) (c .before .magnitude .result) (c .v-of .result) (size (c .before)) (c .v-of .ensures)
 
-pub exceeds-by-spec : {M : Type 1} → statement M
-exceeds-by-spec =
+pub exceeds-spec : {M : Type 1} → statement M
+exceeds-spec =
     tie.close
     (tie.spec
     returns

@@ -1,0 +1,67 @@
+-- The comparison of a deviation with m·S: its products fit 64 bits, and the answer is the paper's.
+use mathlib.Core.Path.{_≡_, sym, ap, _∙_}
+use mathlib.Core.Bool.{false}
+use Prim.Native.Nat.{ℕ, _*_, _-_, _<_, _≤_, _^_}
+use native.Mathlib.Omega.{arith}
+use native.Mathlib.Nat.{mul-le-mul}
+use lib.Dec.{ltb}
+use lib.IntN.{ℤ, pos, natAbs}
+use mir.Syntax.{w16, w64}
+use mir.Val.{SFits, toZ, ofZ}
+use mir.Facts.{toZ-ofZ}
+use borrow.Author.Tests.{le-ltb}
+use Rattle.guide.specs.Limits.{squareOf, vOf, scaledDeviation, exceeds}
+use Rattle.guide.proofs.Limits.{exceeds-natural}
+use Rattle.guide.proofs.Held.{small-fits}
+use Rattle.limits.specs.declared.Sums.{Sums}
+use Rattle.limits.specs.Sums.{sumsSay, Bounded, Comparable}
+use Rattle.limits.proofs.Spread.{v-is, v-small}
+use Rattle.limits.proofs.Deviation.{deviation-small}
+
+-- with no word nothing exceeds
+pub exceeds-none : (m : ℕ) (s : Sums) (d : ℤ) → Bounded s → s .n ≡ 0 → false ≡ exceeds m (sumsSay s) d
+exceeds-none m s d b e =
+    let v = s .n * s .q - natAbs (s .t) * natAbs (s .t) in
+    let z : s .n - 1 ≡ 0 = omega arith in
+    sym (exceeds-natural m (sumsSay s) v d (sym (v-is s b))
+    ∙ le-ltb (m * m * s .n * v) (squareOf d * (s .n - 1)) (omega (arith, ap (λ (x : ℕ). squareOf d * x) z)))
+
+pub exceeds-is : (m : ℕ) (s : Sums) (d : ℤ) (a v : ℕ) → a ≡ natAbs d → pos v ≡ vOf (sumsSay s)
+    → ltb (m * m * (s .n * v)) (a * a * (s .n - 1)) ≡ exceeds m (sumsSay s) d
+exceeds-is m s d a v p e =
+    let f : m * m * (s .n * v) ≡ m * m * s .n * v = omega arith in
+    rw (f, p) (sym (exceeds-natural m (sumsSay s) v d (sym e)))
+
+-- its products fit
+module _ (m : ℕ) (s : Sums) (d : ℤ) (k : Comparable m s d) where
+  pub limit-fits : (v : ℕ) → pos v ≡ vOf (sumsSay s) → m * m * (s .n * v) < 2 ^ 64
+  limit-fits v e = rw (ap natAbs e) (k .limit)
+
+  pub nv-fits : (v : ℕ) → pos v ≡ vOf (sumsSay s) → s .n * v < 2 ^ 64
+  nv-fits v e =
+      let h : v ≤ 2 ^ 40 = omega (arith, ap natAbs e, v-small s (k .bounded)) in
+      omega (arith, mul-le-mul (k .bounded .few) h)
+
+  pub square-small : (a : ℕ) → a ≡ natAbs d → a * a ≤ 2 ^ 58
+  square-small a e = let h : a ≤ 2 ^ 29 = omega (arith, k .deviation) in omega (arith, mul-le-mul h h)
+
+  pub square-fits : (a : ℕ) → a ≡ natAbs d → a * a * (s .n - 1) < 2 ^ 64
+  square-fits a e =
+      let h : s .n - 1 ≤ 31 = omega (arith, k .bounded .few) in
+      omega (arith, mul-le-mul (square-small a e) h)
+
+-- a word's deviation, as the machine holds it, can be compared at any multiple of eight bits
+pub record HeldDeviation (m : ℕ) (s : Sums) (w r : ℤ) : Type 0 where
+  pub is : toZ w64 (ofZ w64 r) ≡ scaledDeviation (sumsSay s) w
+  pub comparable : Comparable m s (toZ w64 (ofZ w64 r))
+
+pub held-deviation : (m : ℕ) (s : Sums) (w r : ℤ) → m < 2 ^ 8 → Bounded s → SFits w16 w
+    → r ≡ scaledDeviation (sumsSay s) (toZ w16 (ofZ w16 w)) → HeldDeviation m s w r
+held-deviation m s w r few b h e =
+    let small = deviation-small s b w h in
+    let own : r ≡ scaledDeviation (sumsSay s) w = e ∙ ap (scaledDeviation (sumsSay s)) (toZ-ofZ h) in
+    let fits : SFits w64 (scaledDeviation (sumsSay s) w) = small-fits (omega arith) in
+    let held = ap (λ (z : ℤ). toZ w64 (ofZ w64 z)) own ∙ toZ-ofZ fits in
+    let p : m ≤ 2 ^ 8 = omega arith in
+    let limit = mul-le-mul (mul-le-mul p p) (mul-le-mul (b .few) (v-small s b)) in
+    record { is = held; comparable = rw held (record { bounded = b; limit = omega arith; deviation = omega arith }) }
