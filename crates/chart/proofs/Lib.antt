@@ -1,3 +1,4 @@
 mod Places
 mod Rounds
+mod State
 mod Building

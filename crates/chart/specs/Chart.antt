@@ -5,11 +5,9 @@ use mathlib.Core.List.{List}
 use Prim.Native.Nat.{ℕ}
 use lib.ListN.{length, take, replicate}
 use lib.IntN.{ℤ, pos}
-use Rattle.guide.specs.Choice.{require}
 use Rattle.guide.specs.Sizes.{baseMost, seriesMost}
-use Rattle.guide.specs.Kind.{isKind}
 use Rattle.guide.specs.State.{State}
-use Rattle.guide.specs.Building.{isBuildCount, allInRange, BuildingAnswer, built, refused, building}
+use Rattle.guide.specs.Building.{BuildingAnswer, built, refused, building}
 use Rattle.chart.specs.declared.Chart.{Chart}
 use Rattle.chart.specs.declared.Built.{Built}
 use Rattle.chart.specs.declared.BuildAnswer.{BuildAnswer}
@@ -56,14 +54,6 @@ freshChart kind base n =
 -- "a refused build or read gives a chart of zeros"
 unfoldable pub zeroChart : Chart
 zeroChart = freshChart 0 (replicate baseMost (pos 0)) 0
-
--- the number of the first condition of building that does not hold, or 0
-unfoldable pub buildRefusal : ℕ → List ℤ → ℕ
-buildRefusal kind words =
-    require (isKind kind) 1
-    (require (isBuildCount words) 2
-    (require (allInRange kind words) 3
-    0))
 
 -- what the cases say, of the chart that is given with them
 unfoldable pub buildSays : Chart → BuildAnswer → BuildingAnswer

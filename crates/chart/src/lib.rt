@@ -10,9 +10,9 @@ ghost use Prim.Native.Nat.{_≤_};
 ghost use lib.ListN.{length};
 ghost use lib.IntN.{pos};
 ghost use Rattle.guide.specs.Sizes.{baseMost};
-ghost use Rattle.guide.specs.Building.{isBuildCount, allInRange};
+ghost use Rattle.guide.specs.Building.{isBuildCount, allInRange, buildRefusal};
 ghost use Rattle.chart.specs.Pad.{pad};
-ghost use Rattle.chart.specs.Chart.{zeroChart, freshChart, buildRefusal, Builds};
+ghost use Rattle.chart.specs.Chart.{zeroChart, freshChart, Builds};
 
 pub struct Chart {
     pub kind: u16,
@@ -55,14 +55,15 @@ impl Chart {
         let number = build_refusal(kind, words);
         if number != 0 {
             return Built {
-                chart: zeros(),
+                chart: zero_chart(),
                 answer: BuildAnswer::Refused(number),
             };
         }
         let r = reject(kind, padded(words), words.len());
-        let base = r.words;
+        let left = r.left;
+        let base = left.words;
         Built {
-            chart: fresh(kind, base, r.n),
+            chart: fresh_chart(kind, base, left.n),
             answer: BuildAnswer::Done {
                 rounds: r.rounds,
                 removed: r.removed,
@@ -124,7 +125,7 @@ fn padded(words: &[i16]) -> [i16; Chart::BASE_MOST]
 }
 
 // A chart with an empty series and status 0.
-fn fresh(kind: u16, base: [i16; Chart::BASE_MOST], n: usize) -> Chart
+fn fresh_chart(kind: u16, base: [i16; Chart::BASE_MOST], n: usize) -> Chart
     ensures { λ r. ⌜ r ≡ freshChart kind base n ⌝ }
 {
     Chart {
@@ -138,8 +139,8 @@ fn fresh(kind: u16, base: [i16; Chart::BASE_MOST], n: usize) -> Chart
     }
 }
 
-fn zeros() -> Chart
+fn zero_chart() -> Chart
     ensures { λ r. ⌜ r ≡ zeroChart ⌝ }
 {
-    fresh(0, [0; Chart::BASE_MOST], 0)
+    fresh_chart(0, [0; Chart::BASE_MOST], 0)
 }

@@ -1,7 +1,7 @@
 // Rejection: document 01, "Base, limits, rejection".
 //
-// A round marks the words beyond the control limits and then moves the others together. Words stand in the front of 32 places, with 0 in
-// the rest.
+// A round marks the words beyond the control limits and then compacts the others. Words stand in the front of 32 places, with 0 in the
+// rest.
 use crate::Chart;
 use limits::Limits;
 use limits::beyond_control;
@@ -11,13 +11,12 @@ ghost use mathlib.Core.Bool.{false};
 ghost use mathlib.Core.List.{map};
 ghost use Prim.Native.Nat.{_≤_};
 ghost use lib.ListN.{take};
-ghost use lib.IntN.{pos};
 ghost use Rattle.guide.specs.Sizes.{baseMost};
 ghost use Rattle.guide.specs.Limits.{beyondControl};
-ghost use Rattle.guide.specs.Rejection.{afterRound};
-ghost use Rattle.limits.specs.Sums.{limitsSay, OfBase};
+ghost use Rattle.guide.specs.Rejection.{afterRound, rejection};
+ghost use Rattle.limits.specs.Sums.{limitsSay, Bounded};
 ghost use Rattle.chart.specs.Pad.{pad};
-ghost use Rattle.chart.specs.Rejection.{unmarked, Holds, Rejects};
+ghost use Rattle.chart.specs.Rejection.{withoutMarked, Holds, IsRejection};
 
 // The first n of 32 places hold words.
 pub struct Standing {
@@ -25,34 +24,32 @@ pub struct Standing {
     pub n: usize,
 }
 
-pub struct Rejected {
-    pub words: [i16; Chart::BASE_MOST],
-    pub n: usize,
+// The words left, the rounds, and the number of words that they removed.
+pub struct RejectionAnswer {
+    pub left: Standing,
     pub rounds: usize,
     pub removed: usize,
 }
 
 // Rejection calls itself on the words left, until a round removes nothing.
-pub fn reject(kind: u16, words: [i16; Chart::BASE_MOST], n: usize) -> Rejected
+pub fn reject(kind: u16, words: [i16; Chart::BASE_MOST], n: usize) -> RejectionAnswer
     requires { ⌜ n ≤ baseMost ⌝ }
-    ensures { λ r. ⌜ Rejects kind (take n words) r ⌝ }
+    ensures { λ r. ⌜ IsRejection (rejection kind (take n words)) r ⌝ }
 {
     let left = after_round(kind, words, n);
     let m = left.n;
-    let rest = left.words;
     if m == n {
-        return Rejected {
-            words: rest,
-            n: m,
+        return RejectionAnswer {
+            left,
             rounds: 1,
             removed: 0,
         };
     }
+    let rest = left.words;
     let r = reject(kind, rest, m);
-    let base = r.words;
-    Rejected {
-        words: base,
-        n: r.n,
+    let base = r.left;
+    RejectionAnswer {
+        left: base,
         rounds: r.rounds + 1,
         removed: r.removed + (n - m),
     }
@@ -69,7 +66,7 @@ fn after_round(kind: u16, words: [i16; Chart::BASE_MOST], n: usize) -> Standing
 
 // Which of the first n words are beyond the control limits.
 fn marks_beyond(l: Limits, words: [i16; Chart::BASE_MOST], n: usize) -> [bool; Chart::BASE_MOST]
-    requires { ⌜ (n ≤ baseMost) × OfBase (l .sums) ⌝ }
+    requires { ⌜ (n ≤ baseMost) × Bounded (l .sums) ⌝ }
     ensures { λ r. ⌜ r ≡ pad false baseMost (map (beyondControl (limitsSay l)) (take n words)) ⌝ }
 {
     let mut marks = [false; Chart::BASE_MOST];
@@ -81,25 +78,28 @@ fn marks_beyond(l: Limits, words: [i16; Chart::BASE_MOST], n: usize) -> [bool; C
     marks
 }
 
-// The first n words without those that are marked, moved together in their old order.
+// The first n words without those that are marked, in their old order.
 fn without_marked(
     words: [i16; Chart::BASE_MOST],
     n: usize,
     marks: [bool; Chart::BASE_MOST],
 ) -> Standing
     requires { ⌜ n ≤ baseMost ⌝ }
-    ensures { λ r. ⌜ Holds (unmarked (take n marks) (take n words)) r ⌝ }
+    ensures { λ r. ⌜ Holds (withoutMarked (take n marks) (take n words)) r ⌝ }
 {
     let mut left = [0i16; Chart::BASE_MOST];
-    let mut j: usize = 0;
+    let mut kept: usize = 0;
     let mut i: usize = 0;
     while i < n {
         if !marks[i] {
             let w = words[i];
-            left[j] = w;
-            j += 1;
+            left[kept] = w;
+            kept += 1;
         }
         i += 1;
     }
-    Standing { words: left, n: j }
+    Standing {
+        words: left,
+        n: kept,
+    }
 }

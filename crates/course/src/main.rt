@@ -39,31 +39,35 @@ fn main() {
     fill_front(&mut a, 7, 9900);
     a[14] = 10000;
     show_build(b"A, kind 2: ", 2, &a);
-    let mut ends_in = [1000; 15];
-    ends_in[14] = 2000;
-    show_build(b"1000 fourteen times and 2000, kind 1: ", 1, &ends_in);
-    ends_in[14] = 0;
-    show_build(b"1000 fourteen times and 0, kind 1: ", 1, &ends_in);
-    show_build(b"1000 fourteen times and 0, kind 2: ", 2, &ends_in);
-    let mut together = [10001; 28];
-    fill_front(&mut together, 13, 10000);
-    together[26] = 10050;
-    together[27] = 10051;
+    let mut fourteen_and_one = [1000; 15];
+    fourteen_and_one[14] = 2000;
+    show_build(
+        b"1000 fourteen times and 2000, kind 1: ",
+        1,
+        &fourteen_and_one,
+    );
+    fourteen_and_one[14] = 0;
+    show_build(b"1000 fourteen times and 0, kind 1: ", 1, &fourteen_and_one);
+    show_build(b"1000 fourteen times and 0, kind 2: ", 2, &fourteen_and_one);
+    let mut two_beyond = [10001; 28];
+    fill_front(&mut two_beyond, 13, 10000);
+    two_beyond[26] = 10050;
+    two_beyond[27] = 10051;
     show_build(
         b"10000 and 10001 thirteen times, 10050, 10051, kind 2: ",
         2,
         &together,
     );
-    let mut to_ten = [0; 15];
-    to_ten[10] = 1;
-    to_ten[11] = 12;
-    to_ten[12] = 144;
-    to_ten[13] = 1728;
-    to_ten[14] = 20000;
+    let mut down_to_ten = [0; 15];
+    down_to_ten[10] = 1;
+    down_to_ten[11] = 12;
+    down_to_ten[12] = 144;
+    down_to_ten[13] = 1728;
+    down_to_ten[14] = 20000;
     show_build(
         b"0 ten times, 1, 12, 144, 1728, 20000, kind 1: ",
         1,
-        &to_ten,
+        &down_to_ten,
     );
     show_build(b"-1 fifteen times, kind 2: ", 2, &[-1; 15]);
     show_build(b"-1 fifteen times, kind 1: ", 1, &[-1; 15]);

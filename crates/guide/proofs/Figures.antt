@@ -12,7 +12,7 @@ use Rattle.guide.specs.Building.{isBuildCount, allInRange, buildRefusal,
 use Rattle.guide.specs.Figures.{Row, table}
 
 pub figures-hold : map (λ (r : Row). r .defined) table ≡ map (λ (r : Row). r .figure) table
-unfolding table isKind ignoresThird wordLeast inRange hasLower isReading areReadings numerator divisor nearestNatural nearest roundedQuotient
-    fromReading wordAlone sumOf sumOfSquares sumsOf vOf scaledDeviation exceeds above below limitsOf beyondUpper beyondLower beyond beyondControl
-    beyondWarning without afterRound rejectionWithin rejection fresh isBuildCount allInRange buildRefusal building
+unfolding table isKind ignoresThird wordLeast inRange hasLower isReading areReadings numerator divisor nearestNatural nearest
+    roundedQuotient fromReading wordAlone sumOf sumOfSquares sumsOf vOf scaledDeviation exceeds above below limitsOf beyondUpper beyondLower
+    beyond beyondControl beyondWarning without afterRound rejectionWithin rejection fresh isBuildCount allInRange buildRefusal building
 figures-hold = refl

@@ -1,7 +1,11 @@
 -- `chart::build_refusal` meets its contract.
+use mathlib.Core.Path.{_≡_}
+use mathlib.Core.Bool.{true}
 use borrow.Author.Needs.{needs}
+use denote.Ref.{now}
 use Rattle.guide.proofs.Booleans.{answered-no, answered-yes}
-use Rattle.chart.specs.Chart.{buildRefusal}
+use Rattle.guide.specs.Kind.{isKind}
+use Rattle.guide.specs.Building.{isBuildCount, buildRefusal}
 use Rattle.chart.proofs.build_refusal.Statement.{statement}
 use Rattle.chart.proofs.build_refusal.Tie as tie
 
@@ -24,27 +28,24 @@ returns-2 c =
 all-in-range-requires : tie.Need-all-in-range-requires
 all-in-range-requires c κs = search needs
 
+-- the kind and the number of words are right
+kind-holds : (c : tie.Else2) → isKind (c .before .before .before .before .args .kind) ≡ true
+kind-holds c = let one = c .before .before in answered-yes (one .before .is-kind .ensures) (one .if1 .left)
+
+count-holds : (c : tie.Else2) → isBuildCount (now (c .before .before .before .before .args .words)) ≡ true
+count-holds c = answered-yes (c .before .is-build-count .ensures) (c .if2 .left)
+
 returns-3 : tie.Need-returns-3
 unfolding buildRefusal
 returns-3 c =
     let two = c .before .before in
-    let one = two .before .before in
-    rw (
-      answered-yes (one .before .is-kind .ensures) (one .if1 .left),
-      answered-yes (two .before .is-build-count .ensures) (two .if2 .left),
-      answered-no (c .before .all-in-range .ensures) (c .if3 .taken),
-    )
+    rw (kind-holds two, count-holds two, answered-no (c .before .all-in-range .ensures) (c .if3 .taken))
 
 returns-4 : tie.Need-returns-4
 unfolding buildRefusal
 returns-4 c =
     let two = c .before .before in
-    let one = two .before .before in
-    rw (
-      answered-yes (one .before .is-kind .ensures) (one .if1 .left),
-      answered-yes (two .before .is-build-count .ensures) (two .if2 .left),
-      answered-yes (c .before .all-in-range .ensures) (c .if3 .left),
-    )
+    rw (kind-holds two, count-holds two, answered-yes (c .before .all-in-range .ensures) (c .if3 .left))
 
 pub build-refusal-spec : {M : Type 1} → statement M
 build-refusal-spec =

@@ -4,30 +4,30 @@ use borrow.Author.Needs.{needs}
 use denote.Ref.{now}
 use lib.ListN.{length}
 use Rattle.guide.specs.Sizes.{baseMost}
-use Rattle.chart.proofs.Building.{accepted, build-declined, build-accepted}
+use Rattle.chart.proofs.Building.{accepted-few, build-declined, build-accepted}
 use Rattle.chart.proofs.Chart.build.Statement.{statement}
 use Rattle.chart.proofs.Chart.build.Tie as tie
 
 build-refusal-requires : tie.Need-build-refusal-requires
 build-refusal-requires c κs = search needs
 
-zeros-requires : tie.Need-zeros-requires
-zeros-requires c κs = search needs
+zero-chart-requires : tie.Need-zero-chart-requires
+zero-chart-requires c κs = search needs
 
 returns : tie.Need-returns
 returns c =
     let start = c .before .before .before in
     let number = c .before .before .build-refusal in
-    build-declined (start .args .kind) (now (start .args .words)) (number .result) (c .zeros .result)
+    build-declined (start .args .kind) (now (start .args .words)) (number .result) (c .zero-chart .result)
     (number .ensures) (c .before .if1 .taken)
-    (c .zeros .ensures)
+    (c .zero-chart .ensures)
 
--- as many words as a base has places
+-- no more words than a base has places
 few : (c : tie.Else1) → length (now (c .before .before .args .words)) ≤ baseMost
 few c =
     let start = c .before .before in
     let number = c .before .build-refusal in
-    accepted (start .args .kind) (now (start .args .words)) (number .result) (number .ensures) (c .if1 .left) .1
+    accepted-few (start .args .kind) (now (start .args .words)) (number .result) (number .ensures) (c .if1 .left)
 
 padded-requires : tie.Need-padded-requires
 padded-requires c κs = few c
@@ -35,27 +35,27 @@ padded-requires c κs = few c
 reject-requires : tie.Need-reject-requires
 reject-requires c κs = few (c .before)
 
-fresh-requires : tie.Need-fresh-requires
-fresh-requires c κs = search needs
+fresh-chart-requires : tie.Need-fresh-chart-requires
+fresh-chart-requires c κs = search needs
 
 returns-2 : tie.Need-returns-2
 returns-2 c =
-    let reject = c .before .before in
+    let reject = c .before .before .before in
     let padded = reject .before in
     let start = padded .before .before .before in
     let number = padded .before .before .build-refusal in
     build-accepted (start .args .kind) (now (start .args .words)) (padded .padded .result) (number .result)
-    (c .fresh .result) (reject .reject .result)
-    (number .ensures) (padded .before .if1 .left) (padded .padded .ensures) (reject .reject .ensures) (c .fresh .ensures)
+    (c .fresh-chart .result) (reject .reject .result)
+    (number .ensures) (padded .before .if1 .left) (padded .padded .ensures) (reject .reject .ensures) (c .fresh-chart .ensures)
 
 pub build-spec : {M : Type 1} → statement M
 build-spec =
     tie.close
     (tie.spec
     build-refusal-requires
-    zeros-requires
+    zero-chart-requires
     returns
     padded-requires
     reject-requires
-    fresh-requires
+    fresh-chart-requires
     returns-2)

@@ -1,13 +1,15 @@
 -- `chart::rejection::reject` meets its contract. The measure is the number of words: a round that removes some leaves fewer.
 use mathlib.Core.Path.{_≡_, sym, _∙_}
 use mathlib.Core.List.{List}
-use Prim.Native.Nat.{ℕ, _<_, _≤_}
+use Prim.Native.Nat.{ℕ, _+_, _<_, _≤_}
 use native.Mathlib.Omega.{arith}
 use lib.ListN.{length, take, length-take}
 use lib.Seq.{length-take-le}
 use lib.IntN.{ℤ}
+use borrow.Author.Needs.{needs}
 use borrow.Fn.Kinds.{In}
 use borrow.Fn.PlainCycle.{Measures, is, falls, and}
+use Rattle.guide.specs.Sizes.{baseMost}
 use Rattle.chart.proofs.Rounds.{rejects-last, rejects-more, fewer, few-rounds}
 use Rattle.chart.proofs.rejection.reject.Reads as reject
 use Rattle.chart.proofs.rejection.reject.Kinds as reject-kinds
@@ -35,23 +37,25 @@ module _ (t : ℕ) where
   words c = take (c .args .n) (c .args .words)
 
   count : (c : reject-lts.Start (claims t) (reject-at t) reject.Post) → length (words c) ≡ c .args .n
-  count c = length-take-le (c .args .n) (c .args .words) (omega (arith, c .good .1 .0 .1 .0 .1))
+  count c =
+      let all : length (c .args .words) ≡ baseMost = search needs in
+      length-take-le (c .args .n) (c .args .words) (omega (arith, c .pre .1))
 
   after-round-requires : reject-lts.Need-after-round-requires (claims t) (reject-at t) reject.Post
   after-round-requires c κs = c .pre .1
 
   returns : reject-lts.Need-returns (claims t) (reject-at t) reject.Post
   returns c =
-      let start = c .before .before .before in
-      let round = c .before .before .after-round in
+      let start = c .before .before in
+      let round = c .before .after-round in
       rejects-last (start .args .kind) (words start) (round .result) (round .ensures) (c .if1 .taken ∙ sym (count start))
 
   -- the round left fewer words
   left-fewer : (c : reject-lts.Else1 (claims t) (reject-at t) reject.Post)
-      → c .before .before .after-round .result .n < c .before .before .before .args .n
+      → c .before .after-round .result .n < c .before .before .args .n
   left-fewer c =
-      let start = c .before .before .before in
-      let round = c .before .before .after-round in
+      let start = c .before .before in
+      let round = c .before .after-round in
       omega (
         arith,
         count start,
@@ -61,38 +65,38 @@ module _ (t : ℕ) where
   reject-requires : reject-lts.Need-reject-requires (claims t) (reject-at t) reject.Post
   reject-requires c κs =
       let start = c .before .before .before in
-      (omega (arith, left-fewer c, start .pre .0), omega (arith, left-fewer c, start .pre .1))
+      (omega (arith, left-fewer (c .before), start .pre .0), omega (arith, left-fewer (c .before), start .pre .1))
 
   -- the rounds and removals after it are few
   small : (c : reject-lts.After-reject (claims t) (reject-at t) reject.Post)
-      → (c .reject .result .rounds ≤ 33) × (c .reject .result .removed ≤ 32)
+      → (c .reject .result .rounds ≤ baseMost + 1) × (c .reject .result .removed ≤ baseMost)
   small c =
-      let m = c .before .before .before .after-round .result .n in
-      let rest = c .before .before .before .after-round .result .words in
-      let start = c .before .before .before .before in
-      let few = few-rounds (start .args .kind) (take m rest) (c .reject .result) (c .reject .ensures) in (
-        omega (arith, few .0, length-take m rest, left-fewer (c .before), start .pre .1),
-        omega (arith, few .1, length-take m rest, left-fewer (c .before), start .pre .1),
-      )
+      let other = c .before .before in
+      let left = other .before .after-round .result in
+      let start = other .before .before in
+      let few = few-rounds (start .args .kind) (take (left .n) (left .words)) (c .reject .result) (c .reject .ensures) in
+      let length = length-take (left .n) (left .words) in
+      (omega (arith, few .rounds, left-fewer other, start .pre .1), omega (arith, few .removed, left-fewer other, start .pre .1))
 
   add-t10 : reject-lts.Need-add-t10 (claims t) (reject-at t) reject.Post
   add-t10 c = omega (arith, small (c .before .before) .0)
 
   sub-t11 : reject-lts.Need-sub-t11 (claims t) (reject-at t) reject.Post
-  sub-t11 c = omega (arith, left-fewer (c .before .before .before))
+  sub-t11 c = omega (arith, left-fewer (c .before .before .before .before))
 
   add-t12 : reject-lts.Need-add-t12 (claims t) (reject-at t) reject.Post
   add-t12 c =
-      let start = c .before .before .before .before .before .before .before in
-      omega (arith, small (c .before .before .before) .1, start .pre .1)
+      let again = c .before .before .before in
+      omega (arith, small again .1, again .before .before .before .before .pre .1)
 
   returns-2 : reject-lts.Need-returns-2 (claims t) (reject-at t) reject.Post
   returns-2 c =
       let again = c .before .before .before in
-      let start = again .before .before .before .before in
-      let round = again .before .before .before .after-round in
+      let other = again .before .before in
+      let start = other .before .before in
+      let round = other .before .after-round in
       let more = rejects-more (start .args .kind) (words start) (round .result) (round .ensures)
-      (again .reject .result) (λ e. again .before .if1 .left (e ∙ count start)) (again .reject .ensures) in
+      (again .reject .result) (λ e. other .if1 .left (e ∙ count start)) (again .reject .ensures) in
       rw (count start) at more
 
 pub +reject-spec : {M : Type 1} → statement M

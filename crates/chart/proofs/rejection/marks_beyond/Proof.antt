@@ -55,10 +55,13 @@ test c = beyondControl (limitsSay (c .args .l))
 abbrev marks : tie.Start Inv-loop μ-loop → List Bool
 marks c = map (test c) (take (c .args .n) (c .args .t2))
 
+words-all : (c : tie.Start Inv-loop μ-loop) → length (c .args .t2) ≡ baseMost
+words-all c = search needs
+
 count : (c : tie.Start Inv-loop μ-loop) → length (marks c) ≡ c .args .n
 count c =
     length-map (take (c .args .n) (c .args .t2)) (test c)
-    ∙ length-take-le (c .args .n) (c .args .t2) (omega (arith, c .good .1 .0 .1 .0 .1))
+    ∙ length-take-le (c .args .n) (c .args .t2) (omega (arith, words-all c))
 
 -- the call's answer is the mark of the word at i
 mark : (c : tie.After-beyond-control Inv-loop μ-loop) → let start = c .before .before .before .before in

@@ -14,20 +14,20 @@ use mir.Val.{toZ, ofZ}
 use mir.Facts.{toZ-ofZ}
 use Rattle.guide.specs.Sizes.{baseMost}
 use Rattle.chart.specs.Pad.{pad}
-use Rattle.chart.specs.Rejection.{unmarked}
+use Rattle.chart.specs.Rejection.{withoutMarked}
 use Rattle.chart.proofs.Rounds.{Moved, moved-few, turn-marked, turn-kept}
 use Rattle.chart.proofs.rejection.without_marked.Statement.{statement}
 use Rattle.chart.proofs.rejection.without_marked.Tie as tie
 
 abbrev Inv-loop : tie.InvT-loop
-Inv-loop n words marks left₀ j₀ i₀ left j i =
-    (i ≤ n) × Moved marks words i left j
+Inv-loop n words marks left₀ kept₀ i₀ left kept i =
+    (i ≤ n) × Moved marks words i left kept
 
 abbrev μ-loop : tie.MeasureT-loop
-μ-loop n words marks left₀ j₀ i₀ left j i = n - i
+μ-loop n words marks left₀ kept₀ i₀ left kept i = n - i
 
 loop-holds : tie.Need-loop-holds Inv-loop μ-loop
-unfolding pad unmarked
+unfolding pad withoutMarked
 loop-holds c = (omega arith, record { words = refl; count = refl })
 
 array-read-if1 : tie.Need-array-read-if1 Inv-loop μ-loop
@@ -46,11 +46,11 @@ marks-all : (c : tie.Start Inv-loop μ-loop) → length (c .args .t3) ≡ baseMo
 marks-all c = search needs
 
 -- no more words stand than were passed
-few : (c : tie.In-loop Inv-loop μ-loop) → c .before .loop .j ≤ c .before .loop .i
+few : (c : tie.In-loop Inv-loop μ-loop) → c .before .loop .kept ≤ c .before .loop .i
 few c =
     let start = c .before .before in
     let l = c .before .loop in
-    moved-few (start .args .t3) (start .args .t1) (l .i) (l .left) (l .j)
+    moved-few (start .args .t3) (start .args .t1) (l .i) (l .left) (l .kept)
     (omega (arith, marks-all start)) (omega (arith, words-all start)) (omega (arith, words-all start)) (l .inv .1)
 
 mul-left : tie.Need-mul-left Inv-loop μ-loop
@@ -59,8 +59,8 @@ mul-left c = omega (arith, few (c .before .before))
 array-set-from-left : tie.Need-array-set-from-left Inv-loop μ-loop
 array-set-from-left c = omega (arith, few (c .before .before))
 
-add-j : tie.Need-add-j Inv-loop μ-loop
-add-j c = omega (arith, few (c .before .before))
+add-kept : tie.Need-add-kept Inv-loop μ-loop
+add-kept c = omega (arith, few (c .before .before))
 
 add-i : tie.Need-add-i Inv-loop μ-loop
 add-i c = omega arith
@@ -80,9 +80,9 @@ loop-again c =
     let word = getD words (l .i) (pos 0) in
     let held : mag word < 2 ^ 15 → toZ w16 (ofZ w16 word) ≡ word = λ h. toZ-ofZ (sfits-of h) in
     let turn = ⊎-elim
-    (λ v. turn-kept marks words (l .i) (l .left) (l .j) im iw all (l .inv .1) (c .if1 .left) (c .if1 .j)
-    (not-true (getD marks (l .i) false) (v .0 .taken)) (v .2 ∙ ap (set (l .left) (l .j)) (held (v .1 .given))) (v .3))
-    (λ v. turn-marked marks words (l .i) (l .left) (l .j) im iw all (l .inv .1) (c .if1 .left) (c .if1 .j)
+    (λ v. turn-kept marks words (l .i) (l .left) (l .kept) im iw all (l .inv .1) (c .if1 .left) (c .if1 .kept)
+    (not-true (getD marks (l .i) false) (v .0 .taken)) (v .2 ∙ ap (set (l .left) (l .kept)) (held (v .1 .given))) (v .3))
+    (λ v. turn-marked marks words (l .i) (l .left) (l .kept) im iw all (l .inv .1) (c .if1 .left) (c .if1 .kept)
     (not-false (getD marks (l .i) false) (v .0 .left)) (v .1) (v .2))
     (c .if1 .came) in
     (omega arith, turn)
@@ -106,7 +106,7 @@ without-marked-spec =
     array-copy-out-w
     mul-left
     array-set-from-left
-    add-j
+    add-kept
     add-i
     loop-less
     loop-again
