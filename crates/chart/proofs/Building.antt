@@ -69,7 +69,8 @@ build-declined kind ws n c e ne z =
     record { chart = z ∙ ap chartAfter (sym d); says = sym d }
 
 pub build-accepted : (kind : ℕ) (ws places : List ℤ) (n : ℕ) (c : Chart) (r : RejectionAnswer) → n ≡ buildRefusal kind ws → n ≡ 0
-    → places ≡ pad (pos 0) baseMost ws → IsRejection (rejection kind (take (length ws) places)) r → c ≡ freshChart kind (r .left .words) (r .left .n)
+    → places ≡ pad (pos 0) baseMost ws → IsRejection (rejection kind (take (length ws) places)) r
+    → c ≡ freshChart kind (r .left .words) (r .left .n)
     → Builds kind ws (record { chart = c; answer = Done (r .rounds) (r .removed) })
 unfolding chartAfter buildSays
 build-accepted kind ws places n c r e z p k f =

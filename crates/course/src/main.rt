@@ -1,5 +1,6 @@
-// Runs the figures of the course and the doubtful cases about words, rejection and building, and prints each answer. What it prints is
-// held to the file `stdout`. No contract can say what is printed; what a function here answers is what it printed.
+// Runs the figures of the course about words and charts, with cases at the edges of the paper's rules, and prints each answer. What it prints
+// is compared with the file `stdout`. No contract can say what is printed; a function here answers the word, the chart or the number
+// that it prints.
 use chart::BuildAnswer;
 use chart::Built;
 use chart::Chart;
@@ -56,7 +57,7 @@ fn main() {
     show_build(
         b"10000 and 10001 thirteen times, 10050, 10051, kind 2: ",
         2,
-        &together,
+        &two_beyond,
     );
     let mut down_to_ten = [0; 15];
     down_to_ten[10] = 1;
@@ -140,6 +141,7 @@ fn show_base(base: [i16; Chart::BASE_MOST], n: usize) -> usize
 {
     io::write_all(STDOUT_FILENO, b" base of ");
     io::print_decimal(STDOUT_FILENO, n as u64);
+    io::write_all(STDOUT_FILENO, b":");
     let mut i: usize = 0;
     while i < Chart::BASE_MOST {
         if i < n {

@@ -1,16 +1,16 @@
 -- `course::show_base` meets its contract.
+use mathlib.Core.Path.{refl}
 use Prim.Native.Nat.{_-_, _≤_}
 use native.Mathlib.Omega.{arith}
-use mathlib.Core.Path.{refl}
 use Rattle.guide.specs.Sizes.{baseMost}
 use Rattle.course.proofs.show_base.Statement.{statement}
 use Rattle.course.proofs.show_base.Tie as tie
 
 abbrev Inv-loop : tie.InvT-loop
-Inv-loop n base i₀ t6 i = i ≤ baseMost
+Inv-loop n base i₀ t7 i = i ≤ baseMost
 
 abbrev μ-loop : tie.MeasureT-loop
-μ-loop n base i₀ t6 i = baseMost - i
+μ-loop n base i₀ t7 i = baseMost - i
 
 slice-aggregate-write-all : tie.Need-slice-aggregate-write-all Inv-loop μ-loop
 slice-aggregate-write-all c = refl
@@ -21,14 +21,20 @@ write-all-requires c κs = tt
 print-decimal-requires : tie.Need-print-decimal-requires Inv-loop μ-loop
 print-decimal-requires c κs = tt
 
-loop-holds : tie.Need-loop-holds Inv-loop μ-loop
-loop-holds c = omega arith
-
 slice-aggregate-write-all-2 : tie.Need-slice-aggregate-write-all-2 Inv-loop μ-loop
 slice-aggregate-write-all-2 c = refl
 
 write-all-requires-2 : tie.Need-write-all-requires-2 Inv-loop μ-loop
 write-all-requires-2 c κs = tt
+
+loop-holds : tie.Need-loop-holds Inv-loop μ-loop
+loop-holds c = omega arith
+
+slice-aggregate-write-all-3 : tie.Need-slice-aggregate-write-all-3 Inv-loop μ-loop
+slice-aggregate-write-all-3 c = refl
+
+write-all-requires-3 : tie.Need-write-all-requires-3 Inv-loop μ-loop
+write-all-requires-3 c κs = tt
 
 mul-show-number : tie.Need-mul-show-number Inv-loop μ-loop
 mul-show-number c = omega arith
@@ -60,9 +66,11 @@ show-base-spec =
     slice-aggregate-write-all
     write-all-requires
     print-decimal-requires
-    loop-holds
     slice-aggregate-write-all-2
     write-all-requires-2
+    loop-holds
+    slice-aggregate-write-all-3
+    write-all-requires-3
     mul-show-number
     array-copy-out-show-number
     show-number-requires
