@@ -25,12 +25,12 @@ use Rattle.guide.proofs.Integers.{square-magnitude, is-pos, agree}
 
 -- ---- T and Q in natural numbers
 
-pub sum-is : (ws : List ℤ) → Diff (sumOf ws) (sumBy plusPart ws) (sumBy minusPart ws)
+sum-is : (ws : List ℤ) → Diff (sumOf ws) (sumBy plusPart ws) (sumBy minusPart ws)
 unfolding sumOf sumBy
 sum-is [] = of-pos
 sum-is (w ∷ ws) = plus (of-any w) (sum-is ws)
 
-pub squares-are : (ws : List ℤ) → sumOfSquares ws ≡ pos (sumBy squareOf ws)
+squares-are : (ws : List ℤ) → sumOfSquares ws ≡ pos (sumBy squareOf ws)
 unfolding sumOfSquares sumOf sumBy
 squares-are [] = refl
 squares-are (w ∷ ws) = rw (square-magnitude w, squares-are ws)
@@ -105,7 +105,7 @@ v-natural (w ∷ ws) =
     not-negative (length ws) (deviationSquares (sumsOf all) all) (vOf (sumsOf all)) (squared-deviations all)
 
 -- n·V in natural numbers
-pub n-times-v : (ws : List ℤ) → length ws * natAbs (vOf (sumsOf ws)) ≡ deviationSquares (sumsOf ws) ws
+n-times-v : (ws : List ℤ) → length ws * natAbs (vOf (sumsOf ws)) ≡ deviationSquares (sumsOf ws) ws
 n-times-v ws = ap natAbs (ap (λ (z : ℤ). pos (length ws) *ℤ z) (sym (v-natural ws)) ∙ squared-deviations ws)
 
 -- ---- the comparison with a limit
