@@ -1,5 +1,5 @@
-// Runs the figures of the course about words and charts, with cases at the edges of the paper's rules, and prints each answer. What it prints
-// is compared with the file `stdout`. No contract can say what is printed; a function here answers the word, the chart or the number
+// Runs the figures of the course about words and charts, with cases at the edges of the paper's rules, and prints each answer. What it
+// prints is compared with the file `stdout`. No contract can say what is printed; a function here answers the word, the chart or the number
 // that it prints.
 use chart::BuildAnswer;
 use chart::Built;

@@ -20,7 +20,8 @@ unfoldable pub allInRange : ℕ → List ℤ → Bool
 allInRange kind [] = true
 allInRange kind (w ∷ ws) = inRange kind w && allInRange kind ws
 
--- "Building answers the chart, the rounds and the number removed", or the number for what is declined
+-- "Building answers the chart, the rounds and the number removed", or the number for what is declined. The "chart of zeros" that goes with
+-- a refusal is a value of the program's type: `chart/specs/Chart` has it
 pub data BuildingAnswer : Type 0 where
   built : State → (rounds removed : ℕ) → BuildingAnswer
   refused : ℕ → BuildingAnswer
@@ -29,7 +30,7 @@ pub data BuildingAnswer : Type 0 where
 abbrev pub builtFrom : ℕ → RejectionAnswer → BuildingAnswer
 builtFrom kind r = built (fresh kind (r .base)) (r .rounds) (r .removed)
 
--- the number of the first condition that does not hold, or 0: 1 "kind not 1..3", 2 "not 15..32 words", 3 "a word out of range"
+-- "the first number that applies", or 0 where none does: 1 "kind not 1..3", 2 "not 15..32 words", 3 "a word out of range"
 unfoldable pub buildRefusal : ℕ → List ℤ → ℕ
 buildRefusal kind words =
     require (isKind kind) 1

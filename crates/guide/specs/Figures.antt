@@ -1,6 +1,6 @@
--- Document 01, "Figures from the course": the starred figures about words, limits and rejection. A row is what the definitions give, and
--- what the course says, as numbers. `proofs/Figures` covers the table by one theorem; the figures without a star are run by
--- the program `course`.
+-- Document 01, "Figures from the course": the starred figures about words, limits and rejection; those of posts, reanalysis and lines are
+-- yet to come into this table. A row is what the definitions give, and what the course says, as numbers. `proofs/Figures` covers the
+-- table by one theorem; the figures without a star are run by the program `course`.
 use mathlib.Core.Bool.{Bool, true, false}
 use mathlib.Core.List.{List, [], _∷_, _++_}
 use Prim.Native.Nat.{_*_}
@@ -48,7 +48,7 @@ limitsA = limitsOf 2 baseA
 abbrev pub fourteenAndOne : List ℤ
 fourteenAndOne = replicate 14 (pos 1000) ++ (pos 2000 ∷ [])
 
--- a limit is the last word that is not beyond it: a test at the word on the limit, and at the next word outwards
+-- a limit that is a whole number is the last word not beyond it: a test at the word on the limit, and at the next word outwards
 abbrev pub edge : (ℤ → Bool) → ℤ → ℤ → List ℤ
 edge test on outside = truth (test on) ∷ truth (test outside) ∷ []
 
@@ -60,7 +60,8 @@ table =
     ∷ record { defined = wordNumbers (word.wordAlone 3 (pos 0) (pos 1) (pos 32)); figure = negsuc 312 ∷ [] }
     -- "A: mean 10000, S 100": T is n·10000, and V is n(n − 1)·100²
     ∷ record { defined = sumsNumbers (sumsOf baseA); figure = pos 15 ∷ pos (15 * 10000) ∷ pos (15 * 14 * 100 * 100) ∷ [] }
-    -- "limits 9700, 9800, 10200, 10300": the lower and the upper control limit, the lower and the upper warning limit
+    -- "limits 9700, 9800, 10200, 10300": the lower and the upper control limit, the lower and the upper warning limit; then a control and a
+    -- warning limit by their own names
     ∷ record { defined = edge (beyondLower controlMultiple limitsA) (pos 9700) (pos 9699); figure = pos 0 ∷ pos 1 ∷ [] }
     ∷ record { defined = edge (beyondUpper controlMultiple limitsA) (pos 10300) (pos 10301); figure = pos 0 ∷ pos 1 ∷ [] }
     ∷ record { defined = edge (beyondLower warningMultiple limitsA) (pos 9800) (pos 9799); figure = pos 0 ∷ pos 1 ∷ [] }
@@ -72,4 +73,6 @@ table =
     -- "2000 removed, two rounds, one removed, base of 14, S = 0"
     ∷ record { defined = buildNumbers (build.building 1 fourteenAndOne); figure = pos 2 ∷ pos 1 ∷ replicate 14 (pos 1000) }
     ∷ record { defined = sumsNumbers (sumsOf (replicate 14 (pos 1000))); figure = pos 14 ∷ pos (14 * 1000) ∷ pos 0 ∷ [] }
+    -- with S = 0 the limit is the mean: 1001, which "Post 1001: 1" is about, is beyond it and 1000 is not
+    ∷ record { defined = edge (beyondControl (limitsOf 1 (replicate 14 (pos 1000)))) (pos 1000) (pos 1001); figure = pos 0 ∷ pos 1 ∷ [] }
     ∷ []

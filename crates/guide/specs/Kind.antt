@@ -1,6 +1,6 @@
 -- What a chart kind decides. A kind is a number: 1 duplicate, 2 check, 3 spike. Each definition states by itself one thing that the kind
--- decides. They are total: a number that is no kind is treated as some kind, and the paper's calls decline it before
--- they ask.
+-- decides. They are total: a number that is no kind is treated as kind 3, and by `hasLower` as kind 1, but the paper's
+-- calls decline it before they ask.
 use mathlib.Core.Bool.{Bool, _&&_, _||_}
 use Prim.Native.Nat.{ℕ}
 use lib.Dec.{leb, eqb}

@@ -35,7 +35,7 @@ unfoldable pub scaledDeviation : Sums → ℤ → ℤ
 scaledDeviation s w = pos (s .n) *ℤ w -ℤ s .t
 
 -- "S² = V / (n(n − 1))": a deviation of d / n is more than m·S, up or down, where (d / n)² > m²·S², that is d²·(n − 1) > m²·n·V.
--- Of no word and of one word, where there is no S, nothing exceeds
+-- By the sums of no word or of one word, where there is no S, nothing exceeds
 unfoldable pub exceeds : ℕ → Sums → ℤ → Bool
 exceeds m s d = ltZ (pos (m * m * s .n) *ℤ vOf s) (d *ℤ d *ℤ pos (s .n - 1))
 
@@ -55,7 +55,7 @@ unfoldable pub limitsOf : ℕ → List ℤ → Limits
 limitsOf kind words = record { kind = kind; sums = sumsOf words }
 
 -- beyond the upper limit at the multiple m; beyond the lower one, which kind 1 has not; beyond one of them. (The "lower control line"
--- of kind 1, 0, is drawn and judges nothing: its words are never below 0.)
+-- of kind 1, 0, is a line only and judges nothing: its words are never below 0.)
 unfoldable pub beyondUpper : ℕ → Limits → ℤ → Bool
 beyondUpper m limits w = above m (limits .sums) w
 

@@ -19,7 +19,7 @@ isReading x = leZ (pos 0) x && leZ x (pos readingMost)
 unfoldable pub areReadings : ℕ → ℤ → ℤ → ℤ → Bool
 areReadings kind a b c = isReading a && (isReading b && (ignoresThird kind || isReading c))
 
--- the word is a quotient of the three numbers a, b and c. Kind 1, X1 and X2: "20000 × |X1 − X2| / (X1 + X2)". Kind 2, X and A:
+-- the word is a quotient of the numbers a, b and c. Kind 1, X1 and X2: "20000 × |X1 − X2| / (X1 + X2)". Kind 2, X and A:
 -- "10000 × X / A". Kind 3, SSR, SR and SA: "10000 × (SSR − SR) / SA"
 unfoldable pub numerator : ℕ → ℤ → ℤ → ℤ → ℤ
 numerator kind a b c =
@@ -31,8 +31,8 @@ numerator kind a b c =
 unfoldable pub divisor : ℕ → ℤ → ℤ → ℤ → ℤ
 divisor kind a b c = byKind kind (a +ℤ b) b c
 
--- "The quotient goes to the nearest whole number, halves away from zero": n / d of a natural number n, and of an integer, whose
--- sign the result has. `proofs/Word` shows that it is the nearest (`nearest-is`), and that no other number is (`nearest-only`)
+-- "The quotient goes to the nearest whole number, halves away from zero": n / d of a natural number n; of a negative one by its
+-- absolute value. For d above 0 `proofs/Word` shows that it is the nearest (`nearest-is`), and that no other number is (`nearest-only`)
 unfoldable pub nearestNatural : ℕ → ℕ → ℕ
 nearestNatural n d = (2 * n + d) / (2 * d)
 
