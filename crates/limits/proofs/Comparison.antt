@@ -10,6 +10,7 @@ use mir.Syntax.{w16, w64}
 use mir.Val.{SFits, toZ, ofZ}
 use mir.Facts.{toZ-ofZ}
 use borrow.Author.Tests.{le-ltb}
+use Rattle.guide.specs.Sizes.{baseMost}
 use Rattle.guide.specs.Limits.{squareOf, vOf, scaledDeviation, exceeds}
 use Rattle.guide.proofs.Limits.{exceeds-natural}
 use Rattle.guide.proofs.Held.{small-fits}
@@ -45,10 +46,8 @@ module _ (m : ℕ) (s : Sums) (d : ℤ) (k : Comparable m s d) where
   pub square-small : (a : ℕ) → a ≡ natAbs d → a * a ≤ 2 ^ 58
   square-small a e = let h : a ≤ 2 ^ 29 = omega (arith, k .deviation) in omega (arith, mul-le-mul h h)
 
-  pub square-fits : (a : ℕ) → a ≡ natAbs d → a * a * (s .n - 1) < 2 ^ 64
-  square-fits a e =
-      let h : s .n - 1 ≤ 31 = omega (arith, k .bounded .few) in
-      omega (arith, mul-le-mul (square-small a e) h)
+  pub square-fits : (a x : ℕ) → a ≡ natAbs d → x ≤ baseMost → a * a * x < 2 ^ 64
+  square-fits a x e h = omega (arith, mul-le-mul (square-small a e) h)
 
 -- a word's deviation, as the machine holds it, can be compared at any multiple of eight bits
 pub record HeldDeviation (m : ℕ) (s : Sums) (w r : ℤ) : Type 0 where

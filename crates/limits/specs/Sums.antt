@@ -34,7 +34,7 @@ pub record IsBeyond (m : ℕ) (limits : guide.Limits) (w : ℤ) (b : BeyondLimit
   pub upper : b .upper ≡ guide.beyondUpper m limits w
   pub lower : b .lower ≡ guide.beyondLower m limits w
 
--- the two sides of the comparison of d with m·S fit 64 bits. The square of a d below 2^29, 31 times, is below 2^63
+-- the two sides of the comparison of d with m·S fit 64 bits. The square of a d below 2^29, 32 times, is below 2^64
 pub record Comparable (m : ℕ) (s : Sums) (d : ℤ) : Type 0 where
   pub bounded : Bounded s
   pub limit : m * m * (s .n * natAbs (guide.vOf (sumsSay s))) < 2 ^ 64

@@ -49,7 +49,9 @@ sub-result c = search needs
 mul-result-5 : tie.Need-mul-result-5
 mul-result-5 c =
     let a = c .before .before .before in
-    record { fits = square-fits (a .args .m) (a .args .s) (a .args .d) (a .pre) (c .before .magnitude .result) (size (c .before)) }
+    let few = a .pre .bounded .few in
+    let size-is = size (c .before) in
+    record { fits = square-fits (a .args .m) (a .args .s) (a .args .d) (a .pre) (c .before .magnitude .result) _ size-is (omega arith) }
 
 returns-2 : tie.Need-returns-2
 returns-2 c =

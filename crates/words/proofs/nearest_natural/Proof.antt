@@ -17,7 +17,7 @@ sub-if1 : tie.Need-sub-if1
 sub-if1 c = omega (arith, mod-lt (c .args .numerator) (c .pre))
 
 one-more : (c : tie.Then1) → c .before .args .numerator / c .before .args .divisor + 1 ≤ c .before .args .numerator
-one-more c = let start = c .before in one-more-small (start .args .numerator) (start .args .divisor) (start .pre) (c .if1 .taken)
+one-more c = let start = c .before in one-more-small (start .args .numerator) (start .args .divisor) (start .pre) (omega arith)
 
 add-result : tie.Need-add-result
 add-result c = omega (arith, one-more c)
@@ -25,12 +25,12 @@ add-result c = omega (arith, one-more c)
 returns : tie.Need-returns
 returns c =
     let start = c .before in
-    (half-or-more (start .args .numerator) (start .args .divisor) (start .pre) (c .if1 .taken), one-more c)
+    (half-or-more (start .args .numerator) (start .args .divisor) (start .pre) (omega arith), one-more c)
 
 returns-2 : tie.Need-returns-2
 returns-2 c =
     let start = c .before in (
-      less-than-half (start .args .numerator) (start .args .divisor) (c .if1 .left),
+      less-than-half (start .args .numerator) (start .args .divisor) (omega arith),
       div-le-self (start .args .numerator) (start .args .divisor),
     )
 
