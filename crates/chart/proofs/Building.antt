@@ -15,12 +15,14 @@ use Rattle.guide.specs.Sizes.{baseWanted, baseMost}
 use Rattle.guide.specs.Kind.{isKind, inRange}
 use Rattle.guide.specs.State.{fresh}
 use Rattle.guide.specs.Rejection.{rejection}
+use Rattle.guide.specs.Rejection as guide
 use Rattle.guide.specs.Building.{isBuildCount, allInRange, built, refused, builtFrom, buildRefusal, building}
 use Rattle.guide.proofs.Booleans.{both}
 use Rattle.chart.specs.Pad.{pad}
-use Rattle.chart.specs.Chart.{stateOf, chartOf, freshChart, zeroChart, buildSays, chartAfter, Builds}
+use Rattle.chart.specs.Chart.{stateOf, freshChart, zeroChart, IsSettled, buildSays, chartAfter, Builds}
 use Rattle.chart.specs.Rejection.{IsRejection}
 use Rattle.chart.specs.declared.Chart.{Chart}
+use Rattle.chart.specs.declared.Settled.{Settled}
 use Rattle.chart.specs.declared.BuildAnswer.the-variants.{Done, Refused}
 use Rattle.chart.specs.declared.rejection.RejectionAnswer.{RejectionAnswer}
 use Rattle.chart.proofs.Places.{take-pad}
@@ -68,19 +70,28 @@ build-declined kind ws n c e ne z =
     let d = declined kind ws n e ne in
     record { chart = z ∙ ap chartAfter (sym d); says = sym d }
 
-pub build-accepted : (kind : ℕ) (ws places : List ℤ) (n : ℕ) (c : Chart) (r : RejectionAnswer) → n ≡ buildRefusal kind ws → n ≡ 0
-    → places ≡ pad (pos 0) baseMost ws → IsRejection (rejection kind (take (length ws) places)) r
-    → c ≡ freshChart kind (r .left .words) (r .left .n)
-    → Builds kind ws (record { chart = c; answer = Done (r .rounds) (r .removed) })
+pub build-accepted : (kind : ℕ) (ws places : List ℤ) (n : ℕ) (r : Settled) → n ≡ buildRefusal kind ws → n ≡ 0
+    → places ≡ pad (pos 0) baseMost ws → IsSettled kind (rejection kind (take (length ws) places)) r
+    → Builds kind ws (record { chart = r .chart; answer = Done (r .rounds) (r .removed) })
 unfolding chartAfter buildSays
-build-accepted kind ws places n c r e z p k f =
+build-accepted kind ws places n r e z p k =
     let d = accepted kind ws n e z in
     let own : take (length ws) places ≡ ws = ap (take (length ws)) p ∙ take-pad (pos 0) baseMost ws (length ws) refl in
-    let k′ : IsRejection (rejection kind ws) r = rw own at k in
-    let base = rejection kind ws .base in
-    let chart : c ≡ chartOf (fresh kind base) = f ∙ fresh-is kind base (r .left .words) (r .left .n) (k′ .left .words) (k′ .left .count) in
-    let state : stateOf c ≡ fresh kind base = ap stateOf chart ∙ state-of-chart (fresh kind base) in
+    let k′ : IsSettled kind (rejection kind ws) r = rw own at k in
+    let start = fresh kind (rejection kind ws .base) in
+    let state : stateOf (r .chart) ≡ start = ap stateOf (k′ .chart) ∙ state-of-chart start in
     record {
-      chart = chart ∙ ap chartAfter (sym d);
+      chart = k′ .chart ∙ ap chartAfter (sym d);
       says = (λ i. built (state i) (k′ .rounds i) (k′ .removed i)) ∙ sym d;
+    }
+
+-- the fresh chart of what rejection leaves
+pub settled : (kind : ℕ) (a : guide.RejectionAnswer) (r : RejectionAnswer) (c : Chart) → IsRejection a r
+    → c ≡ freshChart kind (r .left .words) (r .left .n)
+    → IsSettled kind a (record { chart = c; rounds = r .rounds; removed = r .removed })
+settled kind a r c k f =
+    record {
+      chart = f ∙ fresh-is kind (a .base) (r .left .words) (r .left .n) (k .left .words) (k .left .count);
+      rounds = k .rounds;
+      removed = k .removed;
     }

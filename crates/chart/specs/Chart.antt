@@ -1,14 +1,18 @@
--- The program's chart and the paper's state: the state that a chart stands for, the chart that stands for a state, and what the answers'
--- cases say.
+-- The program's chart and the paper's state: the state that a chart stands for, the chart that stands for a state, and what
+-- building's answer says.
 use mathlib.Core.Path.{_≡_}
 use mathlib.Core.List.{List}
 use Prim.Native.Nat.{ℕ}
 use lib.ListN.{length, take, replicate}
 use lib.IntN.{ℤ, pos}
 use Rattle.guide.specs.Sizes.{baseMost, seriesMost}
-use Rattle.guide.specs.State.{State}
+use Rattle.guide.specs.Rejection.{RejectionAnswer}
+use Rattle.guide.specs.State.{State, fresh, limitsFor}
 use Rattle.guide.specs.Building.{BuildingAnswer, built, refused, building}
+use Rattle.limits.specs.declared.Limits.{Limits}
+use Rattle.limits.specs.Sums.{limitsSay, Bounded}
 use Rattle.chart.specs.declared.Chart.{Chart}
+use Rattle.chart.specs.declared.Settled.{Settled}
 use Rattle.chart.specs.declared.Built.{Built}
 use Rattle.chart.specs.declared.BuildAnswer.{BuildAnswer}
 use Rattle.chart.specs.declared.BuildAnswer.the-variants.{Done, Refused}
@@ -51,9 +55,33 @@ freshChart kind base n =
       «open_verdict» = 0;
     }
 
+-- the same chart with this status and this open verdict
+unfoldable pub withStatus : Chart → ℕ → ℕ → Chart
+withStatus c status openVerdict =
+    record {
+      kind = c .kind;
+      base = c .base;
+      «base_len» = c .«base_len»;
+      series = c .series;
+      «series_len» = c .«series_len»;
+      status = status;
+      «open_verdict» = openVerdict;
+    }
+
 -- "a refused build or read gives a chart of zeros"
 unfoldable pub zeroChart : Chart
 zeroChart = freshChart 0 (replicate baseMost (pos 0)) 0
+
+-- the fresh chart of the base that rejection leaves, the rounds and the number removed
+pub record IsSettled (kind : ℕ) (a : RejectionAnswer) (r : Settled) : Type 0 where
+  pub chart : r .chart ≡ chartOf (fresh kind (a .base))
+  pub rounds : r .rounds ≡ a .rounds
+  pub removed : r .removed ≡ a .removed
+
+-- l are the limits that the state's words are judged by
+pub record LimitsFor (s : State) (l : Limits) : Type 0 where
+  pub same : limitsSay l ≡ limitsFor s
+  pub bounded : Bounded (l .sums)
 
 -- what the cases say, of the chart that is given with them
 unfoldable pub buildSays : Chart → BuildAnswer → BuildingAnswer

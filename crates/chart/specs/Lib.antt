@@ -1,3 +1,6 @@
 pub mod Pad
 pub mod Rejection
 pub mod Chart
+pub mod Soundness
+pub mod Judging
+pub mod Calls

@@ -1,18 +1,42 @@
-// The chart of document 01, and building one.
+// The chart of document 01: building one, and the calls that take a chart and hand it back.
 //
 // Building declines, in this order: 1 a kind that is not 1..3, 2 words that are not 15..32, 3 a word out of range. A refused build
 // gives the chart of zeros.
+//
+// Every call declines first, with 14, a chart that is not sound, before it looks at any place. Then, in this order: post 8 (status not 0),
+// 9 (366 words in the series), 4 (a reading of another kind), 5, 6, 7; reanalyse 10 (status not 1), 4, 5, 6, 7; correct 11 (status not 2);
+// renew 8, 12 (base and series below 15). A refused call gives back the very chart that came.
 mod rejection;
+mod verdict;
+mod reanalysis;
+mod soundness;
 
+use reanalysis::passes;
 use rejection::reject;
+use verdict::status_for;
+use verdict::verdict;
+use limits::Limits;
+use limits::limits_of;
+use words::Formed;
 ghost use mathlib.Core.Path.{_≡_};
-ghost use Prim.Native.Nat.{_≤_};
-ghost use lib.ListN.{length};
+ghost use mathlib.Core.Bool.{true};
+ghost use mathlib.Core.List.{_++_};
+ghost use Prim.Native.Nat.{_+_, _≤_, _<_};
+ghost use lib.ListN.{length, take, getD};
 ghost use lib.IntN.{pos};
-ghost use Rattle.guide.specs.Sizes.{baseMost};
+ghost use Rattle.guide.specs.Sizes.{baseWanted, baseMost, seriesMost};
+ghost use Rattle.guide.specs.LastWords.{lastWords};
+ghost use Rattle.guide.specs.State.{limitsFor, addWord, replaceLast};
+ghost use Rattle.guide.specs.Rejection.{rejection};
 ghost use Rattle.guide.specs.Building.{isBuildCount, allInRange, buildRefusal};
+ghost use Rattle.guide.specs.Verdict as judging;
+ghost use Rattle.guide.specs.Reanalysis as reanalysing;
+ghost use Rattle.guide.specs.Machine as machine;
+ghost use Rattle.words.specs.Formed.{formedSays};
 ghost use Rattle.chart.specs.Pad.{pad};
-ghost use Rattle.chart.specs.Chart.{zeroChart, freshChart, Builds};
+ghost use Rattle.chart.specs.Chart.{stateOf, chartOf, withStatus, zeroChart, freshChart, LimitsFor, IsSettled, Builds};
+ghost use Rattle.chart.specs.Soundness.{soundChart};
+ghost use Rattle.chart.specs.Calls.{Gives, postSays, reanalysisSays, correctionSays, renewalSays, refusalOn};
 
 pub struct Chart {
     pub kind: u16,
@@ -33,6 +57,56 @@ pub enum BuildAnswer {
 pub struct Built {
     pub chart: Chart,
     pub answer: BuildAnswer,
+}
+
+pub enum PostAnswer {
+    Judged { word: i16, verdict: u16 },
+    Refused(u16),
+}
+
+pub struct Posted {
+    pub chart: Chart,
+    pub answer: PostAnswer,
+}
+
+// A reanalysis answers its word and whether it passed.
+pub enum ReanalysisAnswer {
+    Passed(i16),
+    Failed(i16),
+    Refused(u16),
+}
+
+pub struct Reanalysed {
+    pub chart: Chart,
+    pub answer: ReanalysisAnswer,
+}
+
+pub enum CorrectionAnswer {
+    Done,
+    Refused(u16),
+}
+
+pub struct Corrected {
+    pub chart: Chart,
+    pub answer: CorrectionAnswer,
+}
+
+pub enum RenewalAnswer {
+    // Rounds of rejection, and the number of words that they removed.
+    Done { rounds: usize, removed: usize },
+    Refused(u16),
+}
+
+pub struct Renewed {
+    pub chart: Chart,
+    pub answer: RenewalAnswer,
+}
+
+// A fresh chart, the rounds of rejection and the number of words that they removed.
+struct Settled {
+    chart: Chart,
+    rounds: usize,
+    removed: usize,
 }
 
 impl Chart {
@@ -59,16 +133,251 @@ impl Chart {
                 answer: BuildAnswer::Refused(number),
             };
         }
-        let r = reject(kind, padded(words), words.len());
-        let left = r.left;
-        let base = left.words;
+        let s = settle(kind, padded(words), words.len());
+        let chart = s.chart;
         Built {
-            chart: fresh_chart(kind, base, left.n),
+            chart,
             answer: BuildAnswer::Done {
-                rounds: r.rounds,
-                removed: r.removed,
+                rounds: s.rounds,
+                removed: s.removed,
             },
         }
+    }
+
+    // The word is judged, added to the series, and answered with its verdict.
+    pub fn post(mut self, kind: u16, a: i64, b: i64, c: i64) -> Posted
+        ensures { λ r. ⌜ Gives self (machine.post kind a b c) (r .chart) (postSays (r .answer)) ⌝ }
+    {
+        let number = self.post_refusal();
+        if number != 0 {
+            return Posted {
+                chart: self,
+                answer: PostAnswer::Refused(number),
+            };
+        }
+        let formed = word_for(self.kind, kind, a, b, c);
+        match formed {
+            Formed::Word(w) => {
+                let v = self.verdict_on(w);
+                self = self.add_word(w);
+                self = self.set_status(status_for(v), v);
+                Posted {
+                    chart: self,
+                    answer: PostAnswer::Judged { word: w, verdict: v },
+                }
+            }
+            Formed::Refused(n) => Posted {
+                chart: self,
+                answer: PostAnswer::Refused(n),
+            },
+        }
+    }
+
+    // A word that passes replaces the last of the series, and the chart is free again; one that fails leaves the series, and a correction is due.
+    pub fn reanalyse(mut self, kind: u16, a: i64, b: i64, c: i64) -> Reanalysed
+        ensures { λ r. ⌜ Gives self (machine.reanalysis kind a b c) (r .chart) (reanalysisSays (r .answer)) ⌝ }
+    {
+        let number = self.reanalysis_refusal();
+        if number != 0 {
+            return Reanalysed {
+                chart: self,
+                answer: ReanalysisAnswer::Refused(number),
+            };
+        }
+        let formed = word_for(self.kind, kind, a, b, c);
+        match formed {
+            Formed::Word(w) => {
+                if self.passes_for_last(w) {
+                    self = self.replace_last(w);
+                    self = self.set_status(0, 0);
+                    return Reanalysed {
+                        chart: self,
+                        answer: ReanalysisAnswer::Passed(w),
+                    };
+                }
+                self = self.set_status(2, self.open_verdict);
+                Reanalysed {
+                    chart: self,
+                    answer: ReanalysisAnswer::Failed(w),
+                }
+            }
+            Formed::Refused(n) => Reanalysed {
+                chart: self,
+                answer: ReanalysisAnswer::Refused(n),
+            },
+        }
+    }
+
+    // After a correction a reanalysis is due again.
+    pub fn correct(mut self) -> Corrected
+        ensures { λ r. ⌜ Gives self machine.correction (r .chart) (correctionSays (r .answer)) ⌝ }
+    {
+        let number = self.correction_refusal();
+        if number != 0 {
+            return Corrected {
+                chart: self,
+                answer: CorrectionAnswer::Refused(number),
+            };
+        }
+        self = self.set_status(1, self.open_verdict);
+        Corrected {
+            chart: self,
+            answer: CorrectionAnswer::Done,
+        }
+    }
+
+    // The last 15 words of base and series make the new base, as in building.
+    pub fn renew(mut self) -> Renewed
+        ensures { λ r. ⌜ Gives self machine.renewal (r .chart) (renewalSays (r .answer)) ⌝ }
+    {
+        let number = self.renewal_refusal();
+        if number != 0 {
+            return Renewed {
+                chart: self,
+                answer: RenewalAnswer::Refused(number),
+            };
+        }
+        let s = settle(self.kind, self.last_words(), Chart::BASE_WANTED);
+        self = s.chart;
+        Renewed {
+            chart: self,
+            answer: RenewalAnswer::Done {
+                rounds: s.rounds,
+                removed: s.removed,
+            },
+        }
+    }
+
+    // ---- what a call is declined for before what it brings is looked at: the number, or 0
+
+    fn post_refusal(self) -> u16
+        ensures { λ r. ⌜ r ≡ refusalOn self (machine.postRefusal (stateOf self)) ⌝ }
+    {
+        if !self.sound() {
+            return 14;
+        }
+        if self.status != 0 {
+            return 8;
+        }
+        if Chart::SERIES_MOST <= self.series_len {
+            return 9;
+        }
+        0
+    }
+
+    fn reanalysis_refusal(self) -> u16
+        ensures { λ r. ⌜ r ≡ refusalOn self (machine.reanalysisRefusal (stateOf self)) ⌝ }
+    {
+        if !self.sound() {
+            return 14;
+        }
+        if self.status != 1 {
+            return 10;
+        }
+        0
+    }
+
+    fn correction_refusal(self) -> u16
+        ensures { λ r. ⌜ r ≡ refusalOn self (machine.correctionRefusal (stateOf self)) ⌝ }
+    {
+        if !self.sound() {
+            return 14;
+        }
+        if self.status != 2 {
+            return 11;
+        }
+        0
+    }
+
+    fn renewal_refusal(self) -> u16
+        ensures { λ r. ⌜ r ≡ refusalOn self (machine.renewalRefusal (stateOf self)) ⌝ }
+    {
+        if !self.sound() {
+            return 14;
+        }
+        if self.status != 0 {
+            return 8;
+        }
+        if self.base_len + self.series_len < Chart::BASE_WANTED {
+            return 12;
+        }
+        0
+    }
+
+    // ---- what a sound chart's words are judged by
+
+    // The verdict that posting w would give.
+    fn verdict_on(self, w: i16) -> u16
+        requires { ⌜ (soundChart self ≡ true) × (self .«series_len» < seriesMost) ⌝ }
+        ensures { λ r. ⌜ r ≡ judging.verdict (limitsFor (stateOf self)) (addWord (stateOf self) w .series) ⌝ }
+    {
+        let l = self.limits();
+        let mut series = self.series;
+        let m = self.series_len;
+        series[m] = w;
+        let after = m + 1;
+        verdict(l, &series[..after])
+    }
+
+    // Whether w passes in the place of the last word.
+    fn passes_for_last(self, w: i16) -> bool
+        requires { ⌜ soundChart self ≡ true ⌝ }
+        ensures { λ r. ⌜ r ≡ reanalysing.passes (limitsFor (stateOf self)) (self .«open_verdict») (stateOf self .series) w ⌝ }
+    {
+        let l = self.limits();
+        let series = self.series;
+        let m = self.series_len;
+        passes(l, self.open_verdict, &series[..m], w)
+    }
+
+    fn limits(self) -> Limits
+        requires { ⌜ soundChart self ≡ true ⌝ }
+        ensures { λ r. ⌜ LimitsFor (stateOf self) r ⌝ }
+    {
+        let base = self.base;
+        let n = self.base_len;
+        limits_of(self.kind, &base[..n])
+    }
+
+    // ---- what a call changes
+
+    fn add_word(mut self, w: i16) -> Chart
+        requires { ⌜ (soundChart self ≡ true) × (self .«series_len» < seriesMost) ⌝ }
+        ensures { λ r. ⌜ r ≡ chartOf (addWord (stateOf self) w) ⌝ }
+    {
+        let m = self.series_len;
+        self.series[m] = w;
+        self.series_len = m + 1;
+        self
+    }
+
+    fn replace_last(mut self, w: i16) -> Chart
+        requires { ⌜ (soundChart self ≡ true) × (1 ≤ self .«series_len») ⌝ }
+        ensures { λ r. ⌜ r ≡ chartOf (replaceLast (stateOf self) w) ⌝ }
+    {
+        let last = self.series_len - 1;
+        self.series[last] = w;
+        self
+    }
+
+    fn set_status(mut self, status: u16, open_verdict: u16) -> Chart
+        ensures { λ r. ⌜ r ≡ withStatus self status «open_verdict» ⌝ }
+    {
+        self.status = status;
+        self.open_verdict = open_verdict;
+        self
+    }
+
+    // The last 15 words of the base followed by the series, in the places of a base.
+    fn last_words(self) -> [i16; Chart::BASE_MOST]
+        requires { ⌜ (soundChart self ≡ true) × (baseWanted ≤ self .«base_len» + self .«series_len») ⌝ }
+        ensures { λ r. ⌜ r ≡ pad (pos 0) baseMost (lastWords baseWanted (stateOf self .base ++ stateOf self .series)) ⌝ }
+    {
+        let base = self.base;
+        let n = self.base_len;
+        let series = self.series;
+        let m = self.series_len;
+        last_of_both(&base[..n], &series[..m])
     }
 }
 
@@ -122,6 +431,59 @@ fn padded(words: &[i16]) -> [i16; Chart::BASE_MOST]
         i += 1;
     }
     base
+}
+
+// The last 15 words of two slices, one after the other.
+fn last_of_both(base: &[i16], series: &[i16]) -> [i16; Chart::BASE_MOST]
+    requires { ⌜ baseWanted ≤ length (now base) + length (now series) ⌝ }
+    ensures { λ r. ⌜ r ≡ pad (pos 0) baseMost (lastWords baseWanted (now (base .entry) ++ now (series .entry))) ⌝ }
+{
+    let first = base.len() + series.len() - Chart::BASE_WANTED;
+    let mut words = [0i16; Chart::BASE_MOST];
+    let mut i: usize = 0;
+    while i < Chart::BASE_WANTED {
+        words[i] = word_at(base, series, first + i);
+        i += 1;
+    }
+    words
+}
+
+// The word at place i of two slices, one after the other.
+fn word_at(base: &[i16], series: &[i16], i: usize) -> i16
+    requires { ⌜ i < length (now base) + length (now series) ⌝ }
+    ensures { λ r. ⌜ r ≡ getD (now (base .entry) ++ now (series .entry)) i (pos 0) ⌝ }
+{
+    let n = base.len();
+    if i < n {
+        return base[i];
+    }
+    let j = i - n;
+    series[j]
+}
+
+// The word of a reading that comes to a chart: 4 for a reading of another kind, then 5, 6, 7.
+fn word_for(chart_kind: u16, kind: u16, a: i64, b: i64, c: i64) -> Formed
+    ensures { λ r. ⌜ formedSays r ≡ machine.wordFor «chart_kind» kind a b c ⌝ }
+{
+    if kind != chart_kind {
+        return Formed::Refused(4);
+    }
+    words::from_reading(kind, a, b, c)
+}
+
+// The fresh chart of the base that rejection leaves of the first n words.
+fn settle(kind: u16, words: [i16; Chart::BASE_MOST], n: usize) -> Settled
+    requires { ⌜ n ≤ baseMost ⌝ }
+    ensures { λ r. ⌜ IsSettled kind (rejection kind (take n words)) r ⌝ }
+{
+    let r = reject(kind, words, n);
+    let left = r.left;
+    let base = left.words;
+    Settled {
+        chart: fresh_chart(kind, base, left.n),
+        rounds: r.rounds,
+        removed: r.removed,
+    }
 }
 
 // A chart with an empty series and status 0.

@@ -5,7 +5,7 @@ use Rattle.guide.specs.Kind.{isKind, ignoresThird, wordLeast, inRange, h
 use Rattle.guide.specs.Word.{isReading, areReadings, numerator, divisor, nearestNatural, nearest, roundedQuotient, fromReading}
 use Rattle.guide.specs.Word.{wordAlone}
 use Rattle.guide.specs.Limits.{sumOf, sumOfSquares, sumsOf, vOf, scaledDeviation, exceeds, above, below, limitsOf, beyondUpper}
-use Rattle.guide.specs.Limits.{beyondLower, beyond, beyondControl, beyondWarning}
+use Rattle.guide.specs.Limits.{aboveMean, belowMean, beyondLower, beyond, beyondControl, beyondWarning}
 use Rattle.guide.specs.Rejection.{without, afterRound, rejectionWithin, rejection}
 use Rattle.guide.specs.State.{fresh}
 use Rattle.guide.specs.Building.{isBuildCount, allInRange, buildRefusal, building}
@@ -14,5 +14,5 @@ use Rattle.guide.specs.Figures.{Row, table}
 pub figures-hold : map (λ (r : Row). r .defined) table ≡ map (λ (r : Row). r .figure) table
 unfolding table isKind ignoresThird wordLeast inRange hasLower isReading areReadings numerator divisor nearestNatural nearest
     roundedQuotient fromReading wordAlone sumOf sumOfSquares sumsOf vOf scaledDeviation exceeds above below limitsOf beyondUpper beyondLower
-    beyond beyondControl beyondWarning without afterRound rejectionWithin rejection fresh isBuildCount allInRange buildRefusal building
+    aboveMean belowMean beyond beyondControl beyondWarning without afterRound rejectionWithin rejection fresh isBuildCount allInRange buildRefusal building
 figures-hold = refl

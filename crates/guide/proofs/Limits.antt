@@ -15,7 +15,7 @@ use borrow.Author.Tests.{ltb-true}
 use Rattle.guide.specs.Kind.{hasLower}
 use Rattle.guide.specs.Limits.{withWord, squareOf, sumBy, deviationSquares}
 use Rattle.guide.specs.Limits.{Sums, sumOf, sumOfSquares, sumsOf, vOf, scaledDeviation, exceeds, above, below, Limits, beyondUpper}
-use Rattle.guide.specs.Limits.{beyondLower, beyond}
+use Rattle.guide.specs.Limits.{aboveMean, belowMean, beyondLower, beyond}
 use Rattle.guide.specs.Rejection.{without}
 use Rattle.guide.proofs.Booleans.{both, either}
 use Rattle.guide.proofs.Without.{without-ind}
@@ -129,11 +129,11 @@ pub beyond-exceeds : (m : ℕ) (limits : Limits) (w : ℤ) → beyond m limits w
     → exceeds m (limits .sums) (scaledDeviation (limits .sums) w) ≡ true
 unfolding beyond beyondUpper beyondLower above below
 beyond-exceeds m limits w t =
-    let d = scaledDeviation (limits .sums) w in
-    let far = exceeds m (limits .sums) d in
+    let s = limits .sums in
+    let far = exceeds m s (scaledDeviation s w) in
     either (beyondUpper m limits w) (beyondLower m limits w) t
-    (λ u. both (ltZ (pos 0) d) far u .1)
-    (λ l. both (ltZ d (pos 0)) far (both (hasLower (limits .kind)) (below m (limits .sums) w) l .1) .1)
+    (λ u. both (aboveMean s w) far u .1)
+    (λ l. both (belowMean s w) far (both (hasLower (limits .kind)) (below m s w) l .1) .1)
 
 -- ---- how many words lie beyond m·S
 

@@ -26,7 +26,8 @@ pub data BuildingAnswer : Type 0 where
   built : State → (rounds removed : ℕ) → BuildingAnswer
   refused : ℕ → BuildingAnswer
 
--- a fresh chart of the base that rejection leaves
+-- a fresh chart of the base that rejection leaves. It is the machine's "start after building: the chart kind given, the base that rejection
+-- leaves of the words given, an empty series, status 0, open verdict 0"
 abbrev pub builtFrom : ℕ → RejectionAnswer → BuildingAnswer
 builtFrom kind r = built (fresh kind (r .base)) (r .rounds) (r .removed)
 

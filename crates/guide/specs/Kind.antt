@@ -1,6 +1,6 @@
 -- What a chart kind decides. A kind is a number: 1 duplicate, 2 check, 3 spike. Each definition states by itself one thing that the kind
--- decides. They are total: a number that is no kind is treated as kind 3, and by `hasLower` as kind 1, but the paper's
--- calls decline it before they ask.
+-- decides. They are total: a number that is no kind is treated as kind 3, and by `hasLower` and `judgesSide` as kind 1, but the
+-- paper's calls decline it before they ask.
 use mathlib.Core.Bool.{Bool, _&&_, _||_}
 use Prim.Native.Nat.{ℕ}
 use lib.Dec.{leb, eqb}
@@ -33,3 +33,7 @@ inRange kind w = leZ (wordLeast kind) w && leZ w (pos wordMost)
 -- "Kind 1 has only the upper ones": kinds 2 and 3 have lower limits too
 unfoldable pub hasLower : ℕ → Bool
 hasLower kind = eqb kind 2 || eqb kind 3
+
+-- verdict 4: "kinds 2 and 3 only", the kinds of which words on one side of the mean are judged
+unfoldable pub judgesSide : ℕ → Bool
+judgesSide kind = eqb kind 2 || eqb kind 3

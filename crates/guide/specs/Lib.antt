@@ -5,6 +5,11 @@ pub mod Kind
 pub mod Word
 pub mod Limits
 pub mod Rejection
+pub mod LastWords
 pub mod State
 pub mod Building
+pub mod Verdict
+pub mod Reanalysis
+pub mod Soundness
+pub mod Machine
 pub mod Figures

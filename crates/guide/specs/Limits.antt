@@ -39,12 +39,28 @@ scaledDeviation s w = pos (s .n) *ℤ w -ℤ s .t
 unfoldable pub exceeds : ℕ → Sums → ℤ → Bool
 exceeds m s d = ltZ (pos (m * m * s .n) *ℤ vOf s) (d *ℤ d *ℤ pos (s .n - 1))
 
+-- a deviation of d / n is less than m·S, up or down. At just m·S a deviation neither exceeds nor is within; by the sums of no word or of
+-- one word none does either
+unfoldable pub within : ℕ → Sums → ℤ → Bool
+within m s d = ltZ (d *ℤ d *ℤ pos (s .n - 1)) (pos (m * m * s .n) *ℤ vOf s)
+
+-- w is strictly above the mean; strictly below it
+unfoldable pub aboveMean : Sums → ℤ → Bool
+aboveMean s w = ltZ (pos 0) (scaledDeviation s w)
+
+unfoldable pub belowMean : Sums → ℤ → Bool
+belowMean s w = ltZ (scaledDeviation s w) (pos 0)
+
+-- "|word − mean| < S", on either side whatever the kind
+unfoldable pub nearMean : Sums → ℤ → Bool
+nearMean s w = within 1 s (scaledDeviation s w)
+
 -- w is above the mean + m·S; below the mean − m·S. "A word is beyond a limit if strictly outside it."
 unfoldable pub above : ℕ → Sums → ℤ → Bool
-above m s w = ltZ (pos 0) (scaledDeviation s w) && exceeds m s (scaledDeviation s w)
+above m s w = aboveMean s w && exceeds m s (scaledDeviation s w)
 
 unfoldable pub below : ℕ → Sums → ℤ → Bool
-below m s w = ltZ (scaledDeviation s w) (pos 0) && exceeds m s (scaledDeviation s w)
+below m s w = belowMean s w && exceeds m s (scaledDeviation s w)
 
 -- what a word is judged by: a chart kind, and the sums of the words that the limits are worked out from
 pub record Limits : Type 0 where
@@ -77,6 +93,13 @@ beyondControl limits w = beyond controlMultiple limits w
 
 unfoldable pub beyondWarning : Limits → ℤ → Bool
 beyondWarning limits w = beyond warningMultiple limits w
+
+-- beyond the warning limit on one side
+unfoldable pub beyondUpperWarning : Limits → ℤ → Bool
+beyondUpperWarning limits w = beyondUpper warningMultiple limits w
+
+unfoldable pub beyondLowerWarning : Limits → ℤ → Bool
+beyondLowerWarning limits w = beyondLower warningMultiple limits w
 
 -- ---- what the laws of limits and the functions that sum say
 

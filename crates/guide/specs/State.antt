@@ -1,7 +1,9 @@
--- Document 01, "The machine": the state that a chart stands for.
-use mathlib.Core.List.{List, []}
+-- Document 01, "The machine": the state that a chart stands for, and the changes that calls make to it.
+use mathlib.Core.List.{List, [], _∷_, _++_}
 use Prim.Native.Nat.{ℕ}
 use lib.IntN.{ℤ}
+use Rattle.guide.specs.LastWords.{butLast}
+use Rattle.guide.specs.Limits.{Limits, limitsOf}
 
 -- "State: chart kind; base; series (words posted, 0..366); status 0 free, 1 reanalysis due, 2 correction due; open verdict (0 when
 -- free)."
@@ -15,3 +17,22 @@ pub record State : Type 0 where
 -- "A fresh chart has an empty series and status 0", so its open verdict is 0
 unfoldable pub fresh : ℕ → List ℤ → State
 fresh kind base = record { kind = kind; base = base; series = []; status = 0; openVerdict = 0 }
+
+-- what a chart's words are judged by, beside the series
+unfoldable pub limitsFor : State → Limits
+limitsFor s = limitsOf (s .kind) (s .base)
+
+-- the same state with a word added to the series
+unfoldable pub addWord : State → ℤ → State
+addWord s w =
+    record { kind = s .kind; base = s .base; series = s .series ++ (w ∷ []); status = s .status; openVerdict = s .openVerdict }
+
+-- .. with a word in the place of the series' last
+unfoldable pub replaceLast : State → ℤ → State
+replaceLast s w =
+    record { kind = s .kind; base = s .base; series = butLast (s .series) ++ (w ∷ []); status = s .status; openVerdict = s .openVerdict }
+
+-- .. with this status and this open verdict
+unfoldable pub setStatus : State → ℕ → ℕ → State
+setStatus s status openVerdict =
+    record { kind = s .kind; base = s .base; series = s .series; status = status; openVerdict = openVerdict }

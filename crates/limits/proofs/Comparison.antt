@@ -1,6 +1,5 @@
--- The comparison of a deviation with m·S: its products fit 64 bits, and the answer is the paper's.
-use mathlib.Core.Path.{_≡_, sym, ap, _∙_}
-use mathlib.Core.Bool.{false}
+-- The comparison of a deviation with m·S: its two sides are the paper's, and fit 64 bits.
+use mathlib.Core.Path.{_≡_, refl, sym, ap, _∙_}
 use Prim.Native.Nat.{ℕ, _*_, _-_, _<_, _≤_, _^_}
 use native.Mathlib.Omega.{arith}
 use native.Mathlib.Nat.{mul-le-mul}
@@ -9,29 +8,46 @@ use lib.IntN.{ℤ, pos, natAbs}
 use mir.Syntax.{w16, w64}
 use mir.Val.{SFits, toZ, ofZ}
 use mir.Facts.{toZ-ofZ}
-use borrow.Author.Tests.{le-ltb}
 use Rattle.guide.specs.Sizes.{baseMost}
-use Rattle.guide.specs.Limits.{squareOf, vOf, scaledDeviation, exceeds}
-use Rattle.guide.proofs.Limits.{exceeds-natural}
+use Rattle.guide.specs.Limits.{vOf, scaledDeviation, exceeds, within}
+use Rattle.guide.proofs.Integers.{square-magnitude}
 use Rattle.guide.proofs.Held.{small-fits}
 use Rattle.limits.specs.declared.Sums.{Sums}
-use Rattle.limits.specs.Sums.{sumsSay, Bounded, Comparable}
+use Rattle.limits.specs.declared.Squares.{Squares}
+use Rattle.limits.specs.Sums.{sumsSay, Bounded, Comparable, AreSquares}
 use Rattle.limits.proofs.Spread.{v-is, v-small}
 use Rattle.limits.proofs.Deviation.{deviation-small}
 
--- with no word nothing exceeds
-pub exceeds-none : (m : ℕ) (s : Sums) (d : ℤ) → Bounded s → s .n ≡ 0 → false ≡ exceeds m (sumsSay s) d
-exceeds-none m s d b e =
-    let v = s .n * s .q - natAbs (s .t) * natAbs (s .t) in
-    let z : s .n - 1 ≡ 0 = omega arith in
-    sym (exceeds-natural m (sumsSay s) v d (sym (v-is s b))
-    ∙ le-ltb (m * m * s .n * v) (squareOf d * (s .n - 1)) (omega (arith, ap (λ (x : ℕ). squareOf d * x) z)))
+-- the two sides, by the magnitude a of d and by V; with no word both are 0
+module _ (m : ℕ) (s : Sums) (d : ℤ) (a v : ℕ) (p : a ≡ natAbs d) (e : pos v ≡ vOf (sumsSay s)) where
+  pub squares-are : (x y : ℕ) → x ≡ a * a * (s .n - 1) → y ≡ m * m * (s .n * v)
+      → AreSquares m (sumsSay s) d (record { deviation = x; limit = y })
+  squares-are x y f g =
+      let h : y ≡ m * m * s .n * v = omega arith in
+      record {
+        deviation = rw (square-magnitude d, ← p) (ap pos f);
+        limit = rw (← e) (ap pos h);
+      }
 
-pub exceeds-is : (m : ℕ) (s : Sums) (d : ℤ) (a v : ℕ) → a ≡ natAbs d → pos v ≡ vOf (sumsSay s)
-    → ltb (m * m * (s .n * v)) (a * a * (s .n - 1)) ≡ exceeds m (sumsSay s) d
-exceeds-is m s d a v p e =
-    let f : m * m * (s .n * v) ≡ m * m * s .n * v = omega arith in
-    rw (f, p) (sym (exceeds-natural m (sumsSay s) v d (sym e)))
+pub squares-none : (m : ℕ) (s : Sums) (d : ℤ) → Bounded s → s .n ≡ 0 → AreSquares m (sumsSay s) d (record { deviation = 0; limit = 0 })
+squares-none m s d b e =
+    let v = s .n * s .q - natAbs (s .t) * natAbs (s .t) in
+    let one : s .n - 1 ≡ 0 = omega arith in
+    squares-are m s d (natAbs d) v refl (v-is s b) 0 0
+    (omega (arith, ap (λ (x : ℕ). natAbs d * natAbs d * x) one)) (omega (arith, ap (λ (x : ℕ). m * m * (x * v)) e))
+
+-- the comparison, of a d that came as the machine holds it
+module _ (m : ℕ) (s : Sums) (d : ℤ) (r : Squares) (h : SFits w64 d) (k : AreSquares m (sumsSay s) (toZ w64 (ofZ w64 d)) r) where
+  own : AreSquares m (sumsSay s) d r
+  own = rw (toZ-ofZ h) at k
+
+  pub exceeds-is : ltb (r .limit) (r .deviation) ≡ exceeds m (sumsSay s) d
+  unfolding exceeds
+  exceeds-is = rw (← own .limit, ← own .deviation)
+
+  pub within-is : ltb (r .deviation) (r .limit) ≡ within m (sumsSay s) d
+  unfolding within
+  within-is = rw (← own .limit, ← own .deviation)
 
 -- its products fit
 module _ (m : ℕ) (s : Sums) (d : ℤ) (k : Comparable m s d) where

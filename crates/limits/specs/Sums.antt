@@ -1,13 +1,15 @@
 -- What the structs of `limits` say in the paper's terms, and the numbers that the sums of sixteen-bit words stay within.
 use mathlib.Core.Path.{_≡_}
 use mathlib.Core.List.{List}
-use Prim.Native.Nat.{ℕ, _*_, _≤_, _<_, _^_}
-use lib.IntN.{ℤ, pos, natAbs}
+use Prim.Native.Nat.{ℕ, _*_, _-_, _≤_, _<_, _^_}
+use lib.IntN.{ℤ, pos, natAbs, _*ℤ_}
 use Rattle.guide.specs.Sizes.{baseMost}
 use Rattle.guide.specs.Limits as guide
 use Rattle.limits.specs.declared.Sums.{Sums}
 use Rattle.limits.specs.declared.Limits.{Limits}
 use Rattle.limits.specs.declared.BeyondLimits.{BeyondLimits}
+use Rattle.limits.specs.declared.Side.{Side}
+use Rattle.limits.specs.declared.Squares.{Squares}
 
 -- n, T and Q
 abbrev pub sumsSay : Sums → guide.Sums
@@ -29,10 +31,30 @@ pub record AreSums (ws : List ℤ) (s : Sums) : Type 0 where
   pub same : sumsSay s ≡ guide.sumsOf ws
   pub bounded : Bounded s
 
+-- l are the limits that the words give
+pub record AreLimits (kind : ℕ) (ws : List ℤ) (l : Limits) : Type 0 where
+  pub same : limitsSay l ≡ guide.limitsOf kind ws
+  pub bounded : Bounded (l .sums)
+
 -- a word is beyond the upper limit at the multiple m; beyond the lower one
 pub record IsBeyond (m : ℕ) (limits : guide.Limits) (w : ℤ) (b : BeyondLimits) : Type 0 where
   pub upper : b .upper ≡ guide.beyondUpper m limits w
   pub lower : b .lower ≡ guide.beyondLower m limits w
+
+-- .. at the paper's warning limits
+pub record IsBeyondWarning (limits : guide.Limits) (w : ℤ) (b : BeyondLimits) : Type 0 where
+  pub upper : b .upper ≡ guide.beyondUpperWarning limits w
+  pub lower : b .lower ≡ guide.beyondLowerWarning limits w
+
+-- a word is strictly above the mean; strictly below it
+pub record IsSide (s : guide.Sums) (w : ℤ) (r : Side) : Type 0 where
+  pub above : r .above ≡ guide.aboveMean s w
+  pub below : r .below ≡ guide.belowMean s w
+
+-- the two sides of the comparison of d with m·S
+pub record AreSquares (m : ℕ) (s : guide.Sums) (d : ℤ) (r : Squares) : Type 0 where
+  pub deviation : pos (r .deviation) ≡ d *ℤ d *ℤ pos (s .n - 1)
+  pub limit : pos (r .limit) ≡ pos (m * m * s .n) *ℤ guide.vOf s
 
 -- the two sides of the comparison of d with m·S fit 64 bits. The square of a d below 2^29, 32 times, is below 2^64
 pub record Comparable (m : ℕ) (s : Sums) (d : ℤ) : Type 0 where

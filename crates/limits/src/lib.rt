@@ -1,7 +1,8 @@
 // Sums of words, and a word against a limit: document 01, "Base, limits, rejection".
 //
-// A limit is the mean plus or minus a multiple m of S. `sums_of` gives n, T and Q of some words; `beyond` compares a word with the
-// limits at any m, by squares of whole numbers, and `beyond_control` at the paper's 3.
+// A limit is the mean plus or minus a multiple m of S. `limits_of` gives what a word is judged by: a chart kind, with n, T and Q of some
+// words. `beyond` compares a word with the limits at any m, by squares of whole numbers, `beyond_control` and `beyond_warning` at the
+// paper's 3 and 2. `near_mean` and `side_of_mean` say where a word lies about the mean.
 ghost use mathlib.Core.Path.{_≡_};
 ghost use Prim.Native.Nat.{_≤_, _<_};
 ghost use lib.ListN.{length};
@@ -9,10 +10,13 @@ ghost use lib.IntN.{pos, natAbs};
 ghost use Rattle.guide.specs.Sizes.{baseMost};
 ghost use Rattle.guide.specs.Kind.{hasLower};
 ghost use Rattle.guide.specs.Limits as guide;
-ghost use Rattle.limits.specs.Sums.{sumsSay, limitsSay, AreSums, Bounded, Comparable, IsBeyond};
+ghost use Rattle.limits.specs.Sums.{sumsSay, limitsSay, AreSums, AreLimits, Bounded, Comparable, AreSquares, IsBeyond};
+ghost use Rattle.limits.specs.Sums.{IsBeyondWarning, IsSide};
 
-// Control limits are the mean ± 3S.
+// Control limits are the mean ± 3S, warning limits the mean ± 2S.
 const CONTROL: u8 = 3;
+
+const WARNING: u8 = 2;
 
 // The number n of words, their sum T, and the sum Q of their squares. V = n·Q − T² is worked out from these.
 pub struct Sums {
@@ -25,6 +29,18 @@ pub struct Sums {
 pub struct BeyondLimits {
     pub upper: bool,
     pub lower: bool,
+}
+
+// Whether a word is strictly above the mean, and whether it is strictly below it.
+pub struct Side {
+    pub above: bool,
+    pub below: bool,
+}
+
+// The two sides of the comparison of a deviation with a limit.
+struct Squares {
+    deviation: u64,
+    limit: u64,
 }
 
 // What a word is judged by: a chart kind, and the sums of the words that the limits are worked out from.
@@ -46,12 +62,51 @@ pub fn sums_of(words: &[i16]) -> Sums
     s
 }
 
+// The limits that at most 32 words give for a chart kind.
+pub fn limits_of(kind: u16, words: &[i16]) -> Limits
+    requires { ⌜ length (now words) ≤ baseMost ⌝ }
+    ensures { λ r. ⌜ AreLimits kind (now (words .entry)) r ⌝ }
+{
+    let sums = sums_of(words);
+    Limits { kind, sums }
+}
+
 pub fn beyond_control(l: Limits, w: i16) -> bool
     requires { ⌜ Bounded (l .sums) ⌝ }
     ensures { λ r. ⌜ r ≡ guide.beyondControl (limitsSay l) w ⌝ }
 {
     let b = beyond(CONTROL, l, w);
     b.upper | b.lower
+}
+
+// Beyond the warning limit on either side.
+pub fn beyond_warning(l: Limits, w: i16) -> BeyondLimits
+    requires { ⌜ Bounded (l .sums) ⌝ }
+    ensures { λ r. ⌜ IsBeyondWarning (limitsSay l) w r ⌝ }
+{
+    beyond(WARNING, l, w)
+}
+
+// |w − mean| < S
+pub fn near_mean(l: Limits, w: i16) -> bool
+    requires { ⌜ Bounded (l .sums) ⌝ }
+    ensures { λ r. ⌜ r ≡ guide.nearMean (sumsSay (l .sums)) w ⌝ }
+{
+    let s = l.sums;
+    let d = scaled_deviation(s, w);
+    within(1, s, d)
+}
+
+pub fn side_of_mean(l: Limits, w: i16) -> Side
+    requires { ⌜ Bounded (l .sums) ⌝ }
+    ensures { λ r. ⌜ IsSide (sumsSay (l .sums)) w r ⌝ }
+{
+    let s = l.sums;
+    let d = scaled_deviation(s, w);
+    Side {
+        above: 0 < d,
+        below: d < 0,
+    }
 }
 
 // A word against the limits at the multiple m. Kind 1 has no lower limit.
@@ -74,20 +129,43 @@ fn has_lower(kind: u16) -> bool
     (kind == 2) | (kind == 3)
 }
 
-// Is a deviation of d / n more than m·S, up or down? That is d²·(n − 1) > m²·n·V.
+// Is a deviation of d / n more than m·S, up or down?
 fn exceeds(m: u16, s: Sums, d: i64) -> bool
     requires { ⌜ Comparable m s d ⌝ }
     ensures { λ r. ⌜ r ≡ guide.exceeds m (sumsSay s) d ⌝ }
 {
+    let x = squares_of(m, s, d);
+    x.limit < x.deviation
+}
+
+// Is it less than m·S?
+fn within(m: u16, s: Sums, d: i64) -> bool
+    requires { ⌜ Comparable m s d ⌝ }
+    ensures { λ r. ⌜ r ≡ guide.within m (sumsSay s) d ⌝ }
+{
+    let x = squares_of(m, s, d);
+    x.deviation < x.limit
+}
+
+// d²·(n − 1) and m²·n·V, which are compared in place of d / n and m·S.
+fn squares_of(m: u16, s: Sums, d: i64) -> Squares
+    requires { ⌜ Comparable m s d ⌝ }
+    ensures { λ r. ⌜ AreSquares m (sumsSay s) d r ⌝ }
+{
     let n = s.n;
-    // With no word n − 1 is not to be had, and nothing exceeds.
+    // With no word n − 1 is not to be had, and both are 0.
     if n == 0 {
-        return false;
+        return Squares {
+            deviation: 0,
+            limit: 0,
+        };
     }
     let multiple = m as u64;
     let a = magnitude(d);
     let v = v_of(s);
-    multiple * multiple * (n * v) < a * a * (n - 1)
+    let deviation = a * a * (n - 1);
+    let limit = multiple * multiple * (n * v);
+    Squares { deviation, limit }
 }
 
 // V = n·Q − T²

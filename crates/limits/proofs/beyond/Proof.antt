@@ -1,6 +1,6 @@
 -- `limits::beyond` meets its contract.
 use borrow.Author.Needs.{needs}
-use Rattle.guide.specs.Limits.{above, below, beyondUpper, beyondLower}
+use Rattle.guide.specs.Limits.{above, below, aboveMean, belowMean, beyondUpper, beyondLower}
 use Rattle.limits.proofs.Comparison.{HeldDeviation, held-deviation}
 use Rattle.limits.proofs.beyond.Statement.{statement}
 use Rattle.limits.proofs.beyond.Tie as tie
@@ -24,7 +24,7 @@ has-lower-requires : tie.Need-has-lower-requires
 has-lower-requires c κs = search needs
 
 returns : tie.Need-returns
-unfolding beyondUpper beyondLower above below
+unfolding beyondUpper beyondLower above below aboveMean belowMean
 returns c =
     let e = deviation (c .before .before) .is in
     record {

@@ -32,21 +32,16 @@ few c =
 padded-requires : tie.Need-padded-requires
 padded-requires c κs = few c
 
-reject-requires : tie.Need-reject-requires
-reject-requires c κs = few (c .before)
-
-fresh-chart-requires : tie.Need-fresh-chart-requires
-fresh-chart-requires c κs = search needs
+settle-requires : tie.Need-settle-requires
+settle-requires c κs = few (c .before)
 
 returns-2 : tie.Need-returns-2
 returns-2 c =
-    let reject = c .before .before .before in
-    let padded = reject .before in
+    let padded = c .before .before in
     let start = padded .before .before .before in
     let number = padded .before .before .build-refusal in
-    build-accepted (start .args .kind) (now (start .args .words)) (padded .padded .result) (number .result)
-    (c .fresh-chart .result) (reject .reject .result)
-    (number .ensures) (padded .before .if1 .left) (padded .padded .ensures) (reject .reject .ensures) (c .fresh-chart .ensures)
+    build-accepted (start .args .kind) (now (start .args .words)) (padded .padded .result) (number .result) (c .before .settle .result)
+    (number .ensures) (padded .before .if1 .left) (padded .padded .ensures) (c .before .settle .ensures)
 
 pub build-spec : {M : Type 1} → statement M
 build-spec =
@@ -56,6 +51,5 @@ build-spec =
     zero-chart-requires
     returns
     padded-requires
-    reject-requires
-    fresh-chart-requires
+    settle-requires
     returns-2)

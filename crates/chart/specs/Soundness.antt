@@ -1,0 +1,31 @@
+-- When the program's chart is sound: document 01, "Stored form". Any value of the type may be handed in.
+use mathlib.Core.Bool.{Bool, _&&_}
+use mathlib.Core.List.{List}
+use Prim.Native.Nat.{ℕ}
+use lib.ListN.{drop}
+use lib.Dec.{leb, eqb}
+use lib.IntN.{ℤ, natAbs}
+use Rattle.guide.specs.Sizes.{baseMost, seriesMost}
+use Rattle.guide.specs.Verdict.{allOf}
+use Rattle.guide.specs.Soundness.{sound}
+use Rattle.chart.specs.declared.Chart.{Chart}
+use Rattle.chart.specs.Chart.{stateOf}
+
+unfoldable pub isZero : ℤ → Bool
+isZero w = eqb (natAbs w) 0
+
+-- "unused places hold 0": the places after the first n
+unfoldable pub unusedHoldZero : ℕ → List ℤ → Bool
+unusedHoldZero n places = allOf isZero (drop n places)
+
+-- the lengths lie within the arrays, and unused places hold 0
+unfoldable pub placesSound : Chart → Bool
+placesSound c =
+    leb (c .«base_len») baseMost
+    && (leb (c .«series_len») seriesMost
+    && (unusedHoldZero (c .«base_len») (c .base)
+    && unusedHoldZero (c .«series_len») (c .series)))
+
+-- .. and the state that the chart stands for is sound
+unfoldable pub soundChart : Chart → Bool
+soundChart c = placesSound c && sound (stateOf c)

@@ -1,0 +1,148 @@
+// Whether a chart is sound: document 01, "Stored form". Any value of the type may be handed in, so its lengths are looked at before a
+// place is.
+use crate::Chart;
+use crate::all_in_range;
+use crate::verdict::verdict;
+use limits::Limits;
+use limits::beyond_control;
+use limits::limits_of;
+ghost use mathlib.Core.Path.{_≡_};
+ghost use Prim.Native.Nat.{_-_, _≤_};
+ghost use lib.ListN.{length};
+ghost use lib.Dec.{eqb};
+ghost use Rattle.guide.specs.Choice.{choose};
+ghost use Rattle.guide.specs.Sizes.{baseMost, seriesMost};
+ghost use Rattle.guide.specs.Limits.{beyondControl};
+ghost use Rattle.guide.specs.Rejection.{noneOf};
+ghost use Rattle.guide.specs.Soundness.{areCounts, wordsSound, limitsHold, openFits, statusFits, sound};
+ghost use Rattle.limits.specs.Sums.{limitsSay, Bounded};
+ghost use Rattle.chart.specs.Chart.{stateOf};
+ghost use Rattle.chart.specs.Soundness.{unusedHoldZero, placesSound, soundChart};
+
+impl Chart {
+    pub fn sound(self) -> bool
+        ensures { λ r. ⌜ r ≡ soundChart self ⌝ }
+    {
+        if !places_sound(self) {
+            return false;
+        }
+        state_sound(self)
+    }
+}
+
+// The lengths lie within the arrays, and unused places hold 0.
+fn places_sound(c: Chart) -> bool
+    ensures { λ r. ⌜ r ≡ placesSound c ⌝ }
+{
+    let n = c.base_len;
+    let m = c.series_len;
+    let base = c.base;
+    let series = c.series;
+    let zero = zero_from(&base, n) & zero_from(&series, m);
+    (n <= Chart::BASE_MOST) & ((m <= Chart::SERIES_MOST) & zero)
+}
+
+// The places from n on hold 0.
+fn zero_from(places: &[i16], n: usize) -> bool
+    ensures { λ r. ⌜ r ≡ unusedHoldZero n (now (places .entry)) ⌝ }
+{
+    let mut i: usize = n;
+    while i < places.len() {
+        let w = places[i];
+        if w != 0 {
+            return false;
+        }
+        i += 1;
+    }
+    true
+}
+
+// The state that the chart stands for is sound.
+fn state_sound(c: Chart) -> bool
+    requires { ⌜ (c .«base_len» ≤ baseMost) × (c .«series_len» ≤ seriesMost) ⌝ }
+    ensures { λ r. ⌜ r ≡ sound (stateOf c) ⌝ }
+{
+    let kind = c.kind;
+    let n = c.base_len;
+    let m = c.series_len;
+    let base = c.base;
+    let series = c.series;
+    let l = limits_of(kind, &base[..n]);
+    let words = words_sound(kind, &base[..n], &series[..m]);
+    let limits = limits_hold(l, &base[..n], &series[..m], c.status);
+    let status = status_fits(l, &series[..m], c.status, c.open_verdict);
+    words & (limits & status)
+}
+
+// The kind, the numbers of words, and their range.
+fn words_sound(kind: u16, base: &[i16], series: &[i16]) -> bool
+    ensures { λ r. ⌜ r ≡ wordsSound kind (now (base .entry)) (now (series .entry)) ⌝ }
+{
+    let counts = are_counts(base.len(), series.len());
+    let ranges = all_in_range(kind, base) & all_in_range(kind, series);
+    words::is_kind(kind) & (counts & ranges)
+}
+
+fn are_counts(base: usize, series: usize) -> bool
+    ensures { λ r. ⌜ r ≡ areCounts base series ⌝ }
+{
+    let is_base = (Chart::BASE_LEAST <= base) & (base <= Chart::BASE_MOST);
+    is_base & (series <= Chart::SERIES_MOST)
+}
+
+// No base word is beyond a control limit, and no series word, save the last while status is not 0.
+fn limits_hold(l: Limits, base: &[i16], series: &[i16], status: u16) -> bool
+    requires { ⌜ Bounded (l .sums) ⌝ }
+    ensures { λ r. ⌜ r ≡ limitsHold (limitsSay l) (now (base .entry)) (now (series .entry)) status ⌝ }
+{
+    let k = held_count(series.len(), status);
+    none_beyond_control(l, base) & none_beyond_control(l, &series[..k])
+}
+
+// How many of the series' m words have to lie within.
+fn held_count(m: usize, status: u16) -> usize
+    ensures { λ r. ⌜ r ≡ choose (eqb status 0) m (m - 1) ⌝ }
+{
+    if status == 0 {
+        return m;
+    }
+    if m == 0 {
+        return 0;
+    }
+    m - 1
+}
+
+fn none_beyond_control(l: Limits, words: &[i16]) -> bool
+    requires { ⌜ Bounded (l .sums) ⌝ }
+    ensures { λ r. ⌜ r ≡ noneOf (beyondControl (limitsSay l)) (now (words .entry)) ⌝ }
+{
+    let mut i: usize = 0;
+    while i < words.len() {
+        if beyond_control(l, words[i]) {
+            return false;
+        }
+        i += 1;
+    }
+    true
+}
+
+// The status and the open verdict go together.
+fn status_fits(l: Limits, series: &[i16], status: u16, open_verdict: u16) -> bool
+    requires { ⌜ Bounded (l .sums) ⌝ }
+    ensures { λ r. ⌜ r ≡ statusFits (limitsSay l) (now (series .entry)) status «open_verdict» ⌝ }
+{
+    if status == 0 {
+        return open_verdict == 0;
+    }
+    open_fits(l, series, status, open_verdict)
+}
+
+fn open_fits(l: Limits, series: &[i16], status: u16, open_verdict: u16) -> bool
+    requires { ⌜ Bounded (l .sums) ⌝ }
+    ensures { λ r. ⌜ r ≡ openFits (limitsSay l) (now (series .entry)) status «open_verdict» ⌝ }
+{
+    let is_status = (1 <= status) & (status <= 2);
+    let is_verdict = (1 <= open_verdict) & (open_verdict <= 4);
+    let same = open_verdict == verdict(l, series);
+    is_status & ((1 <= series.len()) & (is_verdict & same))
+}

@@ -1,0 +1,91 @@
+-- Document 01, "Post": the verdict on the last word of a series, by the limits and the series alone.
+use mathlib.Core.Bool.{Bool, true, _&&_, _||_}
+use mathlib.Core.List.{List, [], _∷_}
+use Prim.Native.Nat.{ℕ}
+use lib.ListN.{length}
+use lib.Dec.{leb, eqb}
+use lib.IntN.{ℤ}
+use lib.Signed.{ltZ}
+use Rattle.guide.specs.Choice.{choose}
+use Rattle.guide.specs.Kind.{judgesSide}
+use Rattle.guide.specs.Limits.{Limits, aboveMean, belowMean, beyondControl, beyondUpperWarning, beyondLowerWarning}
+use Rattle.guide.specs.LastWords.{lastWords, lastWord, oneBeforeLast}
+
+-- ---- what words may be
+
+-- every word passes the test
+unfoldable pub allOf : (ℤ → Bool) → List ℤ → Bool
+allOf test [] = true
+allOf test (w ∷ ws) = test w && allOf test ws
+
+-- each word and the next stand in the order
+unfoldable pub eachNext : (ℤ → ℤ → Bool) → List ℤ → Bool
+eachNext order [] = true
+eachNext order (w ∷ []) = true
+eachNext order (w ∷ (next ∷ ws)) = order w next && eachNext order (next ∷ ws)
+
+-- "rise strictly", "fall strictly", from one word to the next
+abbrev pub rises : ℤ → ℤ → Bool
+rises w next = ltZ w next
+
+abbrev pub falls : ℤ → ℤ → Bool
+falls w next = ltZ next w
+
+-- ---- runs: "the last seven words of the series (with fewer, never)". "The guide's six points follow the turning point, which is the first
+-- of the seven."
+
+abbrev pub runLength : ℕ
+runLength = 7
+
+-- the words of the run are so
+unfoldable pub isRun : (List ℤ → Bool) → List ℤ → Bool
+isRun so series = leb runLength (length series) && so (lastWords runLength series)
+
+unfoldable pub rising : List ℤ → Bool
+rising series = isRun (eachNext rises) series
+
+unfoldable pub falling : List ℤ → Bool
+falling series = isRun (eachNext falls) series
+
+unfoldable pub runAbove : Limits → List ℤ → Bool
+runAbove limits series = isRun (allOf (aboveMean (limits .sums))) series
+
+unfoldable pub runBelow : Limits → List ℤ → Bool
+runBelow limits series = isRun (allOf (belowMean (limits .sums))) series
+
+-- ---- the four tests, of a series whose last word is the one that is judged
+
+-- 1: "beyond a control limit"
+unfoldable pub controlTest : Limits → List ℤ → Bool
+controlTest limits series = leb 1 (length series) && beyondControl limits (lastWord series)
+
+-- 2: "this word and the one before it in the series (never for the first) are beyond the warning limit on the same side"
+unfoldable pub warningTest : Limits → List ℤ → Bool
+warningTest limits series =
+    leb 2 (length series)
+    && ((beyondUpperWarning limits (oneBeforeLast series) && beyondUpperWarning limits (lastWord series))
+    || (beyondLowerWarning limits (oneBeforeLast series) && beyondLowerWarning limits (lastWord series)))
+
+-- 3: "the last seven words of the series (with fewer, never) rise strictly, or fall strictly"
+unfoldable pub trendTest : List ℤ → Bool
+trendTest series = rising series || falling series
+
+-- 4: "kinds 2 and 3 only; the last seven words of the series (with fewer, never) are all strictly above or all strictly below the mean"
+unfoldable pub sideTest : Limits → List ℤ → Bool
+sideTest limits series = judgesSide (limits .kind) && (runAbove limits series || runBelow limits series)
+
+-- ---- the verdict
+
+-- "the lowest that applies", and 0 for "none of these". "Judging uses chart kind, base and series only": the limits hold what it takes of
+-- kind and base
+unfoldable pub verdict : Limits → List ℤ → ℕ
+verdict limits series =
+    choose (controlTest limits series) 1
+    (choose (warningTest limits series) 2
+    (choose (trendTest series) 3
+    (choose (sideTest limits series) 4
+    0)))
+
+-- "Verdicts 1..3 set status 1, verdict 4 sets status 2." A word with verdict 0 leaves the chart free
+unfoldable pub statusFor : ℕ → ℕ
+statusFor v = choose (eqb v 0) 0 (choose (eqb v 4) 2 1)
