@@ -1,4 +1,4 @@
--- Laws of building: the range of words one by one, what its conditions decide, and its contract where it declines and where it builds.
+-- Laws of building: what its conditions decide, and its contract where it declines and where it builds.
 use mathlib.Core.Path.{_≡_, refl, sym, ap, _∙_}
 use mathlib.Core.Bool.{Bool, true, false, _&&_}
 use mathlib.Core.List.{List}
@@ -27,16 +27,6 @@ use Rattle.chart.specs.declared.BuildAnswer.the-variants.{Done, Refused}
 use Rattle.chart.specs.declared.rejection.RejectionAnswer.{RejectionAnswer}
 use Rattle.chart.proofs.Places.{take-pad}
 use Rattle.chart.proofs.State.{state-of-chart, fresh-is}
-
--- the range of the words from i on: the word at i, and those after it
-pub range-next : (kind : ℕ) (ws : List ℤ) (i : ℕ) → i < length ws
-    → allInRange kind (drop i ws) ≡ (inRange kind (getD ws i (pos 0)) && allInRange kind (drop (i + 1) ws))
-unfolding allInRange
-range-next kind ws i h = rw (add-one, drop-cons ws i (pos 0))
-
-pub range-none : (kind : ℕ) (ws : List ℤ) (i : ℕ) → length ws ≤ i → allInRange kind (drop i ws) ≡ true
-unfolding allInRange
-range-none kind ws i h = rw (drop-of-length-le ws h)
 
 -- ---- refusals
 

@@ -3,7 +3,8 @@ use mathlib.Core.Path.{_≡_}
 use mathlib.Core.List.{List}
 use lib.IntN.{ℤ}
 use Rattle.guide.specs.Limits.{Limits, aboveMean, belowMean}
-use Rattle.guide.specs.Verdict.{allOf, eachNext, rises, falls, rising, falling, runAbove, runBelow}
+use Rattle.guide.specs.AllOf.{allOf}
+use Rattle.guide.specs.Verdict.{eachNext, rises, falls, rising, falling, runAbove, runBelow}
 use Rattle.chart.specs.declared.verdict.Trend.{Trend}
 use Rattle.chart.specs.declared.verdict.RunSide.{RunSide}
 

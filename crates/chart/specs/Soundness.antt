@@ -6,7 +6,7 @@ use lib.ListN.{drop}
 use lib.Dec.{leb, eqb}
 use lib.IntN.{ℤ, natAbs}
 use Rattle.guide.specs.Sizes.{baseMost, seriesMost}
-use Rattle.guide.specs.Verdict.{allOf}
+use Rattle.guide.specs.AllOf.{allOf}
 use Rattle.guide.specs.Soundness.{sound}
 use Rattle.chart.specs.declared.Chart.{Chart}
 use Rattle.chart.specs.Chart.{stateOf}

@@ -23,3 +23,12 @@ answered-no {r} e t = sym e ∙ not-true r t
 
 pub answered-yes : {r x : Bool} → r ≡ x → not r ≡ false → x ≡ true
 answered-yes {r} e t = sym e ∙ not-false r t
+
+-- a loop that joins tests: what it found and what remains, together, is the whole. One test more; and the end, where nothing remains
+pub found-more : (found test rest next whole : Bool) → (found && rest) ≡ whole → rest ≡ (test && next) → ((found && test) && next) ≡ whole
+found-more true test rest next whole h e = sym e ∙ h
+found-more false test rest next whole h e = h
+
+pub found-all : (found rest whole : Bool) → (found && rest) ≡ whole → rest ≡ true → found ≡ whole
+found-all true rest whole h e = sym e ∙ h
+found-all false rest whole h e = h

@@ -1,18 +1,28 @@
 -- The starred figures: what the definitions give is what the course says, in every row.
 use mathlib.Core.Path.{_≡_, refl}
 use mathlib.Core.List.{map}
-use Rattle.guide.specs.Kind.{isKind, ignoresThird, wordLeast, inRange, hasLower}
+use Rattle.guide.specs.AllOf.{allOf}
+use Rattle.guide.specs.Kind.{isKind, ignoresThird, wordLeast, inRange, hasLower, judgesSide}
 use Rattle.guide.specs.Word.{isReading, areReadings, numerator, divisor, nearestNatural, nearest, roundedQuotient, fromReading}
 use Rattle.guide.specs.Word.{wordAlone}
 use Rattle.guide.specs.Limits.{sumOf, sumOfSquares, sumsOf, vOf, scaledDeviation, exceeds, above, below, limitsOf, beyondUpper}
-use Rattle.guide.specs.Limits.{aboveMean, belowMean, beyondLower, beyond, beyondControl, beyondWarning}
+use Rattle.guide.specs.Limits.{within, aboveMean, belowMean, nearMean, beyondLower, beyond, beyondControl, beyondWarning}
+use Rattle.guide.specs.Limits.{beyondUpperWarning, beyondLowerWarning}
 use Rattle.guide.specs.Rejection.{without, afterRound, rejectionWithin, rejection}
-use Rattle.guide.specs.State.{fresh}
+use Rattle.guide.specs.LastWords.{lastWords, butLast, lastWord, oneBeforeLast}
+use Rattle.guide.specs.State.{fresh, limitsFor, addWord, replaceLast, setStatus}
 use Rattle.guide.specs.Building.{isBuildCount, allInRange, buildRefusal, building}
+use Rattle.guide.specs.Verdict.{eachNext, isRun, rising, falling, runAbove, runBelow, controlTest, warningTest, trendTest}
+use Rattle.guide.specs.Verdict.{sideTest, verdict, statusFor}
+use Rattle.guide.specs.Reanalysis.{turnsBack, passesTrend, passesVerdict, passes}
+use Rattle.guide.specs.Machine.{postRefusal, reanalysisRefusal, wordFor, posting, afterReanalysis, reanalysing, step, answers}
 use Rattle.guide.specs.Figures.{Row, table}
 
 pub figures-hold : map (λ (r : Row). r .defined) table ≡ map (λ (r : Row). r .figure) table
-unfolding table isKind ignoresThird wordLeast inRange hasLower isReading areReadings numerator divisor nearestNatural nearest
-    roundedQuotient fromReading wordAlone sumOf sumOfSquares sumsOf vOf scaledDeviation exceeds above below limitsOf beyondUpper beyondLower
-    aboveMean belowMean beyond beyondControl beyondWarning without afterRound rejectionWithin rejection fresh isBuildCount allInRange buildRefusal building
+unfolding table isKind ignoresThird wordLeast inRange hasLower judgesSide isReading areReadings numerator divisor nearestNatural nearest
+    roundedQuotient fromReading wordAlone sumOf sumOfSquares sumsOf vOf scaledDeviation exceeds within aboveMean belowMean nearMean
+    above below limitsOf beyondUpper beyondLower beyond beyondControl beyondWarning beyondUpperWarning beyondLowerWarning without afterRound
+    rejectionWithin rejection lastWords butLast lastWord oneBeforeLast fresh limitsFor addWord replaceLast setStatus isBuildCount allInRange
+    buildRefusal building allOf eachNext isRun rising falling runAbove runBelow controlTest warningTest trendTest sideTest verdict statusFor
+    turnsBack passesTrend passesVerdict passes postRefusal reanalysisRefusal wordFor posting afterReanalysis reanalysing step answers
 figures-hold = refl

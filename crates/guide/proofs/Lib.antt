@@ -2,9 +2,16 @@
 pub mod Integers
 pub mod Held
 pub mod Booleans
+pub mod Choice
+pub mod AllOf
 pub mod Kind
 pub mod Word
 pub mod Without
 pub mod Limits
 pub mod Rejection
+pub mod InOrder
+pub mod LastWords
+pub mod Verdict
+pub mod Soundness
+pub mod Machine
 pub mod Figures

@@ -11,9 +11,10 @@ use lib.Dec.{eqb}
 use lib.IntN.{ℤ}
 use borrow.Author.Tests.{eqb-true, eqb-false, eq-eqb, ne-eqb}
 use Rattle.guide.specs.Choice.{choose}
+use Rattle.guide.specs.AllOf.{noneOf}
 use Rattle.guide.specs.Sizes.{baseLeast}
 use Rattle.guide.specs.Limits.{limitsOf, controlMultiple, beyondControl}
-use Rattle.guide.specs.Rejection.{without, afterRound, RejectionAnswer, lastRound, oneMoreRound, rejectionWithin, rejection, noneOf}
+use Rattle.guide.specs.Rejection.{without, afterRound, RejectionAnswer, lastRound, oneMoreRound, rejectionWithin, rejection}
 use Rattle.guide.specs.Rejection.{InOrder, none, kept, removed}
 use Rattle.guide.proofs.Booleans.{by-test}
 use Rattle.guide.proofs.Without.{without-shorter, without-keeps-order, RemovesNothing, without-removes-nothing}

@@ -7,7 +7,8 @@ use native.Mathlib.Omega.{arith}
 use lib.ListN.{length}
 use lib.IntN.{ℤ}
 use Rattle.guide.specs.Choice.{choose}
-use Rattle.guide.specs.Rejection.{without, noneOf, InOrder, none, kept, removed}
+use Rattle.guide.specs.AllOf.{allOf, noneOf}
+use Rattle.guide.specs.Rejection.{without, InOrder, none, kept, removed}
 
 -- what holds of no words, and of one word more whether it is removed or kept, holds of any words and what is left of them
 module _ (test : ℤ → Bool) (P : List ℤ → List ℤ → Type 0) (empty : P [] [])
@@ -36,7 +37,7 @@ pub record RemovesNothing (test : ℤ → Bool) (ws left : List ℤ) : Type 0 wh
 
 removes-nothing : (test : ℤ → Bool) (ws : List ℤ) → let left = without test ws in
     (length left ≤ length ws) × (length left ≡ length ws → RemovesNothing test ws left)
-unfolding noneOf
+unfolding noneOf allOf
 removes-nothing test =
     without-ind test (λ ws left. (length left ≤ length ws) × (length left ≡ length ws → RemovesNothing test ws left))
     (omega arith, λ e. record { same = refl; none-passes = refl })

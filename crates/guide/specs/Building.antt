@@ -1,12 +1,13 @@
 -- Document 01, "Base, limits, rejection": what building answers.
-use mathlib.Core.Bool.{Bool, true, _&&_}
-use mathlib.Core.List.{List, [], _∷_}
+use mathlib.Core.Bool.{Bool, _&&_}
+use mathlib.Core.List.{List}
 use Prim.Native.Nat.{ℕ, zero, suc}
 use lib.ListN.{length}
 use lib.Dec.{leb}
 use lib.IntN.{ℤ}
 use Rattle.guide.specs.Choice.{require}
 use Rattle.guide.specs.Sizes.{baseWanted, baseMost}
+use Rattle.guide.specs.AllOf.{allOf}
 use Rattle.guide.specs.Kind.{isKind, inRange}
 use Rattle.guide.specs.Rejection.{RejectionAnswer, rejection}
 use Rattle.guide.specs.State.{State, fresh}
@@ -17,8 +18,7 @@ isBuildCount words = leb baseWanted (length words) && leb (length words) baseMos
 
 -- every word is in the kind's range
 unfoldable pub allInRange : ℕ → List ℤ → Bool
-allInRange kind [] = true
-allInRange kind (w ∷ ws) = inRange kind w && allInRange kind ws
+allInRange kind words = allOf (inRange kind) words
 
 -- "Building answers the chart, the rounds and the number removed", or the number for what is declined. The "chart of zeros" that goes with
 -- a refusal is a value of the program's type: `chart/specs/Chart` has it

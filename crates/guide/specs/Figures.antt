@@ -1,15 +1,17 @@
--- Document 01, "Figures from the course": the starred figures about words, limits and rejection; those of posts, reanalysis and lines are
+-- Document 01, "Figures from the course": the starred figures about words, limits, rejection, posts and reanalysis; those of lines are
 -- yet to come into this table. A row is what the definitions give, and what the course says, as numbers. `proofs/Figures` covers the
 -- table by one theorem; the figures without a star are run by the program `course`.
 use mathlib.Core.Bool.{Bool, true, false}
-use mathlib.Core.List.{List, [], _∷_, _++_}
-use Prim.Native.Nat.{_*_}
+use mathlib.Core.List.{List, [], _∷_, _++_, map}
+use Prim.Native.Nat.{ℕ, _+_, _*_, _-_}
 use lib.ListN.{replicate}
 use lib.IntN.{ℤ, pos, negsuc}
 use Rattle.guide.specs.Word as word
 use Rattle.guide.specs.Limits.{Sums, sumsOf, vOf, Limits, limitsOf, controlMultiple, warningMultiple, beyondUpper, beyondLower}
 use Rattle.guide.specs.Limits.{beyondControl, beyondWarning}
 use Rattle.guide.specs.Building as build
+use Rattle.guide.specs.Verdict.{sideTest}
+use Rattle.guide.specs.Machine as machine
 
 pub record Row : Type 0 where
   pub defined : List ℤ
@@ -35,6 +37,19 @@ abbrev pub truth : Bool → ℤ
 truth false = pos 0
 truth true = pos 1
 
+-- the verdict of a post, and whether a reanalysis passed; any other answer, a refusal too, stands as −1, which is neither
+abbrev pub verdictNumber : machine.Answer → ℤ
+verdictNumber (machine.judged w v) = pos v
+verdictNumber (machine.reanalysed w passed) = truth passed
+verdictNumber machine.corrected = negsuc 0
+verdictNumber (machine.renewed rounds removed) = negsuc 0
+verdictNumber (machine.refused n) = negsuc 0
+
+-- .. of each of the calls, the first of which takes the chart from building; of a refused building, none
+abbrev pub verdictsOf : build.BuildingAnswer → List machine.Call → List ℤ
+verdictsOf (build.built s rounds removed) calls = map verdictNumber (machine.answers s calls)
+verdictsOf (build.refused n) calls = []
+
 -- ---- bases
 
 -- "Base A (kind 2): 9900 seven times, 10100 seven times, 10000."
@@ -51,6 +66,27 @@ fourteenAndOne = replicate 14 (pos 1000) ++ (pos 2000 ∷ [])
 -- a limit that is a whole number is the last word not beyond it: a test at the word on the limit, and at the next word outwards
 abbrev pub edge : (ℤ → Bool) → ℤ → ℤ → List ℤ
 edge test on outside = truth (test on) ∷ truth (test outside) ∷ []
+
+-- ---- calls
+
+-- a post of kind 2 whose word is w: found w, made up 10000; a reanalysis of the same
+abbrev pub checkPost : ℕ → machine.Call
+checkPost w = machine.post 2 (pos w) (pos 10000) (pos 0)
+
+abbrev pub checkReanalysis : ℕ → machine.Call
+checkReanalysis w = machine.reanalysis 2 (pos w) (pos 10000) (pos 0)
+
+-- a post of kind 1 whose word is w: X1 and X2 lie w above and w below 20000
+abbrev pub duplicatePost : ℕ → machine.Call
+duplicatePost w = machine.post 1 (pos (20000 + w)) (pos (20000 - w)) (pos 0)
+
+-- calls on the chart that is built from base A
+abbrev pub verdictsOnA : List machine.Call → List ℤ
+verdictsOnA calls = verdictsOf (build.building 2 baseA) calls
+
+-- seven words in tens, from w on
+abbrev pub sevenInTens : ℕ → List ℕ
+sevenInTens w = w ∷ (w + 10) ∷ (w + 20) ∷ (w + 30) ∷ (w + 40) ∷ (w + 50) ∷ (w + 60) ∷ []
 
 unfoldable pub table : List Row
 table =
@@ -75,4 +111,20 @@ table =
     ∷ record { defined = sumsNumbers (sumsOf (replicate 14 (pos 1000))); figure = pos 14 ∷ pos (14 * 1000) ∷ pos 0 ∷ [] }
     -- with S = 0 the limit is the mean: 1001, which "Post 1001: 1" is about, is beyond it and 1000 is not
     ∷ record { defined = edge (beyondControl (limitsOf 1 (replicate 14 (pos 1000)))) (pos 1000) (pos 1001); figure = pos 0 ∷ pos 1 ∷ [] }
+    -- "Post 1001: 1."
+    ∷ record { defined = verdictsOf (build.building 1 fourteenAndOne) (duplicatePost 1001 ∷ []); figure = pos 1 ∷ [] }
+    -- "A, post 10300: 0 (first point)." "Post 10301: 1."
+    ∷ record { defined = verdictsOnA (map checkPost (10300 ∷ [])); figure = pos 0 ∷ [] }
+    ∷ record { defined = verdictsOnA (map checkPost (10301 ∷ [])); figure = pos 1 ∷ [] }
+    -- "A, posts 10250, 10210: second is 2." "Posts 10250, 9790: second is 0."
+    ∷ record { defined = verdictsOnA (map checkPost (10250 ∷ 10210 ∷ [])); figure = pos 0 ∷ pos 2 ∷ [] }
+    ∷ record { defined = verdictsOnA (map checkPost (10250 ∷ 9790 ∷ [])); figure = pos 0 ∷ pos 0 ∷ [] }
+    -- "A, posts 9950, 9960, .., 10010 in tens: only the seventh is 3; reanalysis 9995 passes."
+    ∷ record {
+      defined = verdictsOnA (map checkPost (sevenInTens 9950) ++ (checkReanalysis 9995 ∷ []));
+      figure = replicate 6 (pos 0) ++ (pos 3 ∷ pos 1 ∷ []);
+    }
+    -- "A, posts 10010, 10020, .., 10070: the seventh is 3, though 4 applies too."
+    ∷ record { defined = verdictsOnA (map checkPost (sevenInTens 10010)); figure = replicate 6 (pos 0) ++ (pos 3 ∷ []) }
+    ∷ record { defined = truth (sideTest limitsA (map pos (sevenInTens 10010))) ∷ []; figure = pos 1 ∷ [] }
     ∷ []

@@ -1,5 +1,6 @@
 -- The paper's definitions, over lists of integers and numbers, with no type of the program. One concept to a file.
 pub mod Choice
+pub mod AllOf
 pub mod Sizes
 pub mod Kind
 pub mod Word

@@ -1,5 +1,5 @@
 -- Document 01, "Base, limits, rejection": rounds of rejection, what they leave, and how many rounds and words they take.
-use mathlib.Core.Bool.{Bool, true, _&&_, not}
+use mathlib.Core.Bool.{Bool}
 use mathlib.Core.List.{List, [], _∷_}
 use Prim.Native.Nat.{ℕ, zero, suc, _+_, _-_}
 use lib.ListN.{length}
@@ -45,11 +45,6 @@ unfoldable pub rejection : ℕ → List ℤ → RejectionAnswer
 rejection kind words = rejectionWithin (suc (length words)) kind words
 
 -- ---- what the laws of rejection say
-
--- no word passes the test
-unfoldable pub noneOf : (ℤ → Bool) → List ℤ → Bool
-noneOf test [] = true
-noneOf test (w ∷ ws) = not (test w) && noneOf test ws
 
 -- some of the words, in their old order
 pub data InOrder : List ℤ → List ℤ → Type 0 where

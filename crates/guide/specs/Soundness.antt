@@ -7,9 +7,9 @@ use lib.Dec.{leb, eqb}
 use lib.IntN.{ℤ}
 use Rattle.guide.specs.Choice.{choose}
 use Rattle.guide.specs.Sizes.{baseLeast, baseMost, seriesMost}
+use Rattle.guide.specs.AllOf.{noneOf}
 use Rattle.guide.specs.Kind.{isKind}
 use Rattle.guide.specs.Limits.{Limits, beyondControl}
-use Rattle.guide.specs.Rejection.{noneOf}
 use Rattle.guide.specs.LastWords.{butLast}
 use Rattle.guide.specs.State.{State, limitsFor}
 use Rattle.guide.specs.Building.{allInRange}

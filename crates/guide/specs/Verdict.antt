@@ -7,16 +7,10 @@ use lib.Dec.{leb, eqb}
 use lib.IntN.{ℤ}
 use lib.Signed.{ltZ}
 use Rattle.guide.specs.Choice.{choose}
+use Rattle.guide.specs.AllOf.{allOf}
 use Rattle.guide.specs.Kind.{judgesSide}
 use Rattle.guide.specs.Limits.{Limits, aboveMean, belowMean, beyondControl, beyondUpperWarning, beyondLowerWarning}
 use Rattle.guide.specs.LastWords.{lastWords, lastWord, oneBeforeLast}
-
--- ---- what words may be
-
--- every word passes the test
-unfoldable pub allOf : (ℤ → Bool) → List ℤ → Bool
-allOf test [] = true
-allOf test (w ∷ ws) = test w && allOf test ws
 
 -- each word and the next stand in the order
 unfoldable pub eachNext : (ℤ → ℤ → Bool) → List ℤ → Bool

@@ -4,7 +4,6 @@ use mathlib.Core.Bool.{Bool, _&&_}
 use Prim.Native.Nat.{_+_, _-_, _≤_}
 use native.Mathlib.Omega.{arith}
 use borrow.Author.Needs.{needs, sfits-of}
-use borrow.Author.Tests.{not-true, not-false}
 use denote.Ref.{now}
 use lib.ListN.{length, getD, drop}
 use lib.IntN.{pos}
@@ -12,8 +11,9 @@ use mir.Syntax.{w16}
 use mir.Val.{SFits}
 use Rattle.guide.specs.Kind.{inRange}
 use Rattle.guide.specs.Building.{allInRange}
+use Rattle.guide.proofs.AllOf.{all-none, all-fails, all-passes}
+use Rattle.guide.proofs.Booleans.{answered-no, answered-yes}
 use Rattle.guide.proofs.Held.{cast-word, cast-fits}
-use Rattle.chart.proofs.Building.{range-next, range-none}
 use Rattle.chart.proofs.all_in_range.Statement.{statement}
 use Rattle.chart.proofs.all_in_range.Tie as tie
 
@@ -41,20 +41,21 @@ cast-in-range c =
 in-range-requires : tie.Need-in-range-requires Inv-loop μ-loop
 in-range-requires c κs = search needs
 
--- the range of the words that remain, by what the call says of the first of them
-remain : (c : tie.After-in-range Inv-loop μ-loop)
-    → let start = c .before .before .before .before in let words = now (start .args .words) in let i = c .before .before .before .loop .i in
-    (c .in-range .result && allInRange (start .args .kind) (drop (i + 1) words)) ≡ allInRange (start .args .kind) words
-remain c =
+-- the call's answer is the test of the word at i
+tested : (c : tie.After-in-range Inv-loop μ-loop) → let start = c .before .before .before .before in
+    c .in-range .result ≡ inRange (start .args .kind) (getD (now (start .args .words)) (c .before .before .before .loop .i) (pos 0))
+tested c =
     let start = c .before .before .before .before in
-    let words = now (start .args .words) in
-    let l = c .before .before .before .loop in
-    let e = c .in-range .ensures ∙ ap (inRange (start .args .kind)) (cast-word (sfits-of (c .before .w .given))) in
-    ap (λ (x : Bool). x && allInRange (start .args .kind) (drop (l .i + 1) words)) e
-    ∙ sym (range-next (start .args .kind) words (l .i) (c .before .before .loop-test .taken)) ∙ l .inv .1
+    c .in-range .ensures ∙ ap (inRange (start .args .kind)) (cast-word (sfits-of (c .before .w .given)))
 
 returns : tie.Need-returns Inv-loop μ-loop
-returns c = rw (not-true (c .before .in-range .result) (c .if1 .taken)) at (remain (c .before))
+unfolding allInRange
+returns c =
+    let l = c .before .before .before .before in
+    let start = l .before in
+    let test = inRange (start .args .kind) in
+    let fails = answered-no (tested (c .before)) (c .if1 .taken) in
+    sym (all-fails test (now (start .args .words)) (l .loop .i) (c .before .before .before .loop-test .taken) fails) ∙ l .loop .inv .1
 
 add-i : tie.Need-add-i Inv-loop μ-loop
 add-i c = search needs
@@ -63,13 +64,22 @@ loop-less : tie.Need-loop-less Inv-loop μ-loop
 loop-less c = omega arith
 
 loop-again : tie.Need-loop-again Inv-loop μ-loop
-loop-again c = (omega arith, rw (not-false (c .before .in-range .result) (c .if1 .left)) at (remain (c .before)))
+unfolding allInRange
+loop-again c =
+    let l = c .before .before .before .before in
+    let start = l .before in
+    let test = inRange (start .args .kind) in
+    let passes = answered-yes (tested (c .before)) (c .if1 .left) in
+    let i = l .loop .i in (
+      omega arith,
+      sym (all-passes test (now (start .args .words)) i (c .before .before .before .loop-test .taken) passes) ∙ l .loop .inv .1,
+    )
 
 returns-2 : tie.Need-returns-2 Inv-loop μ-loop
+unfolding allInRange
 returns-2 c =
-    let start = c .before .before in
-    let words = now (start .args .words) in
-    sym (range-none (start .args .kind) words (c .before .loop .i) (c .loop-test .left)) ∙ c .before .loop .inv .1
+    let l = c .before in
+    sym (all-none (inRange (l .before .args .kind)) (now (l .before .args .words)) (l .loop .i) (c .loop-test .left)) ∙ l .loop .inv .1
 
 pub all-in-range-spec : {M : Type 1} → statement M
 all-in-range-spec =

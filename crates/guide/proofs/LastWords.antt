@@ -1,0 +1,48 @@
+-- Laws of the end of a list of words: after a word is added it is the last, and the rest is what stood before.
+use mathlib.Core.Path.{_≡_}
+use mathlib.Core.List.{List, [], _∷_, _++_}
+use Prim.Native.Nat.{ℕ, _+_, _-_, _≤_}
+use native.Mathlib.Omega.{arith}
+use lib.ListN.{length, length-append, length-drop}
+use lib.Seq.{take-append-seam, getD-append-seam, length-take-le}
+use lib.IntN.{ℤ, pos}
+use Rattle.guide.specs.LastWords.{lastWords, butLast, lastWord}
+use Rattle.guide.specs.Rejection.{InOrder}
+use Rattle.guide.proofs.InOrder.{drop-in-order, take-in-order}
+
+-- ---- a word added
+
+-- one word more
+pub length-added : (ws : List ℤ) (w : ℤ) → length (ws ++ (w ∷ [])) ≡ length ws + 1
+length-added ws w = length-append ws (w ∷ [])
+
+before-added : (ws : List ℤ) (w : ℤ) → length (ws ++ (w ∷ [])) - 1 ≡ length ws
+before-added ws w = omega (arith, length-added ws w)
+
+-- the last is the word that was added
+pub last-word-added : (ws : List ℤ) (w : ℤ) → lastWord (ws ++ (w ∷ [])) ≡ w
+unfolding lastWord
+last-word-added ws w = rw (before-added ws w) (getD-append-seam ws w [] (pos 0))
+
+-- all but the last are the words that stood before
+pub but-last-added : (ws : List ℤ) (w : ℤ) → butLast (ws ++ (w ∷ [])) ≡ ws
+unfolding butLast
+but-last-added ws w = rw (before-added ws w) (take-append-seam ws (w ∷ []))
+
+-- ---- all but the last, and the last k: words of the list in their old order, and how many they are
+
+pub but-last-in-order : (ws : List ℤ) → InOrder (butLast ws) ws
+unfolding butLast
+but-last-in-order ws = take-in-order (length ws - 1) ws
+
+pub length-but-last : (ws : List ℤ) → length (butLast ws) ≡ length ws - 1
+unfolding butLast
+length-but-last ws = length-take-le (length ws - 1) ws (omega arith)
+
+pub last-words-in-order : (k : ℕ) (ws : List ℤ) → InOrder (lastWords k ws) ws
+unfolding lastWords
+last-words-in-order k ws = drop-in-order (length ws - k) ws
+
+pub length-last-words : (k : ℕ) (ws : List ℤ) → k ≤ length ws → length (lastWords k ws) ≡ k
+unfolding lastWords
+length-last-words k ws h = omega (arith, length-drop (length ws - k) ws)

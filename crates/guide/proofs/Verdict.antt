@@ -1,0 +1,48 @@
+-- Laws of the verdict: it is at most 4; where it is 0 the last word is not beyond a control limit; and the status that it sets.
+use mathlib.Core.Path.{_≡_, refl}
+use mathlib.Core.Bool.{false, true}
+use mathlib.Core.List.{List, [], _∷_, _++_}
+use Prim.Native.Nat.{ℕ, _≤_}
+use native.Mathlib.Omega.{arith}
+use lib.ListN.{length}
+use lib.Dec.{leb, eqb}
+use lib.IntN.{ℤ}
+use borrow.Author.Tests.{le-leb, ne-eqb}
+use Rattle.guide.specs.Limits.{Limits, beyondControl}
+use Rattle.guide.specs.Verdict.{controlTest, warningTest, trendTest, sideTest, verdict, statusFor}
+use Rattle.guide.proofs.Booleans.{by-test}
+use Rattle.guide.proofs.LastWords.{length-added, last-word-added}
+
+-- the greatest verdict is 4
+pub verdict-at-most-four : (limits : Limits) (series : List ℤ) → verdict limits series ≤ 4
+unfolding verdict
+verdict-at-most-four limits series =
+    by-test (controlTest limits series) (λ t. rw t (omega arith))
+    (λ t. rw t (by-test (warningTest limits series) (λ u. rw u (omega arith))
+    (λ u. rw u (by-test (trendTest series) (λ v. rw v (omega arith))
+    (λ v. rw v (by-test (sideTest limits series) (λ x. rw x (omega arith)) (λ x. rw x (omega arith))))))))
+
+-- verdict 0: the control test, the first of the four, failed of the word that was added
+pub no-verdict-within : (limits : Limits) (series : List ℤ) (w : ℤ)
+    → verdict limits (series ++ (w ∷ [])) ≡ 0 → beyondControl limits w ≡ false
+unfolding verdict controlTest
+no-verdict-within limits series w h =
+    let words = series ++ (w ∷ []) in
+    by-test (controlTest limits words) (λ t. absurd (omega (arith, rw t at h)))
+    (λ t.
+    let some : leb 1 (length words) ≡ true = le-leb 1 (length words) (omega (arith, length-added series w)) in
+    rw (some, last-word-added series w) at t)
+
+-- ---- the status that a verdict sets
+
+-- verdict 0 leaves the chart free
+pub status-for-none : statusFor 0 ≡ 0
+unfolding statusFor
+status-for-none = refl
+
+-- any other verdict sets 1 or 2
+pub status-for-some : (v : ℕ) → 1 ≤ v → (1 ≤ statusFor v) × (statusFor v ≤ 2)
+unfolding statusFor
+status-for-some v h =
+    rw (ne-eqb v 0 (λ e. omega arith))
+    (by-test (eqb v 4) (λ t. rw t (omega arith)) (λ t. rw t (omega arith)))
