@@ -1,4 +1,7 @@
 mod Places
 mod Rounds
+mod Judging
+mod SoundCharts
 mod State
 mod Building
+mod Calls

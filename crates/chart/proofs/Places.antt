@@ -1,12 +1,22 @@
 -- Laws of a list in an array that may be longer, over any type of element.
-use mathlib.Core.Path.{_≡_, sym, ap, _∙_}
+use mathlib.Core.Path.{_≡_, refl, sym, ap, _∙_}
+use mathlib.Core.Bool.{true, false}
 use mathlib.Core.List.{List, [], _∷_, _++_, append-assoc}
-use Prim.Native.Nat.{ℕ, suc, _+_, _-_, _<_, _≤_}
+use Prim.Native.Nat.{ℕ, zero, suc, _+_, _-_, _<_, _≤_}
 use native.Mathlib.Omega.{arith}
 use native.Mathlib.Numerals.{add-one}
-use lib.ListN.{length, take, set, getD, replicate, length-append}
-use lib.Seq.{take-at, set-at, take-suc, length-take-le}
+use lib.ListN.{length, take, drop, set, getD, replicate, length-append, length-drop, length-set, take-append-drop}
+use lib.Seq.{take-at, set-at, take-suc, take-suc-set, drop-set-lt, length-take-le, drop-append-seam, getD-append-add}
+use lib.IntN.{ℤ, pos, negsuc}
+use mir.Syntax.{w16}
+use mir.Val.{SFits, toZ, ofZ}
+use mir.Facts.{toZ-ofZ}
+use borrow.Author.Tests.{eqb-true, ne-eqb}
+use Rattle.guide.specs.AllOf.{allOf}
+use Rattle.guide.proofs.AllOf.{all-next}
+use Rattle.guide.proofs.Booleans.{both}
 use Rattle.chart.specs.Pad.{pad}
+use Rattle.chart.specs.Soundness.{isZero, unusedHoldZero}
 
 module _ {ℓ} {A : Type ℓ} (filler : A) (size : ℕ) where
   -- the list itself again
@@ -28,3 +38,85 @@ module _ {ℓ} {A : Type ℓ} (filler : A) (size : ℕ) where
   pad-next l i d h few =
       let n : i ≡ length (take i l) = sym (length-take-le i l (omega arith)) in
       pad-snoc (take i l) (getD l i d) i n (omega arith) ∙ ap (pad filler size) (sym (rw (add-one, take-suc l i d)))
+
+-- the first of the first
+pub take-fewer {ℓ} : {A : Type ℓ} (i n : ℕ) (l : List A) → i ≤ n → take i (take n l) ≡ take i l
+take-fewer zero n l h = refl
+take-fewer (suc i) zero l h = absurd (omega arith)
+take-fewer (suc i) (suc n) [] h = refl
+take-fewer (suc i) (suc n) (x ∷ l) h = ap (λ r. x ∷ r) (take-fewer i n l (omega arith))
+
+-- the element at i of two lists, one after the other
+pub joined-first {ℓ} : {A : Type ℓ} (xs ys : List A) (i : ℕ) (d : A) → i < length xs → getD (xs ++ ys) i d ≡ getD xs i d
+joined-first [] ys i d h = absurd (omega arith)
+joined-first (x ∷ xs) ys zero d h = refl
+joined-first (x ∷ xs) ys (suc i) d h = joined-first xs ys i d (omega arith)
+
+pub joined-second {ℓ} : {A : Type ℓ} (xs ys : List A) (i : ℕ) (d : A) → length xs ≤ i → getD (xs ++ ys) i d ≡ getD ys (i - length xs) d
+joined-second xs ys i d h =
+    let e : i ≡ length xs + (i - length xs) = omega arith in
+    ap (λ (k : ℕ). getD (xs ++ ys) k d) e ∙ getD-append-add xs ys (i - length xs) d
+
+-- ---- places that hold 0
+
+-- an element that was tested by its bits
+pub zero-held : {z : ℤ} → SFits w16 z → ofZ w16 z ≡ 0 → isZero z ≡ true
+unfolding isZero
+zero-held f e = ap isZero (sym (toZ-ofZ f) ∙ ap (toZ w16) e)
+
+pub not-zero-held : {z : ℤ} → SFits w16 z → (ofZ w16 z ≡ 0 → ⊥) → isZero z ≡ false
+unfolding isZero
+not-zero-held {z = pos n} f ne = ne-eqb n 0 ne
+not-zero-held {z = negsuc n} f ne = ne-eqb (suc n) 0 (λ e. absurd (omega arith))
+
+zero-is : (z : ℤ) → isZero z ≡ true → z ≡ pos 0
+unfolding isZero
+zero-is (pos n) h = ap pos (eqb-true n 0 h)
+zero-is (negsuc n) h = absurd (omega (arith, eqb-true (suc n) 0 h))
+
+zeros-are : (l : List ℤ) → allOf isZero l ≡ true → l ≡ replicate (length l) (pos 0)
+unfolding allOf
+zeros-are [] h = refl
+zeros-are (z ∷ l) h =
+    let parts = both (isZero z) (allOf isZero l) h in
+    λ i. zero-is z (parts .0) i ∷ zeros-are l (parts .1) i
+
+replicate-zeros : (n : ℕ) → allOf isZero (replicate n (pos 0)) ≡ true
+unfolding allOf isZero
+replicate-zeros zero = refl
+replicate-zeros (suc n) = replicate-zeros n
+
+-- places whose unused ones hold 0 are the used ones, padded; and the other way round
+pub pad-take : (size n : ℕ) (places : List ℤ) → length places ≡ size → n ≤ size → unusedHoldZero n places ≡ true
+    → pad (pos 0) size (take n places) ≡ places
+unfolding pad unusedHoldZero
+pad-take size n places e h z =
+    let used = length-take-le n places (omega arith) in
+    let number : size - length (take n places) ≡ length (drop n places) = omega (arith, length-drop n places) in
+    let unused : replicate (size - length (take n places)) (pos 0) ≡ drop n places =
+    ap (λ (k : ℕ). replicate k (pos 0)) number ∙ sym (zeros-are (drop n places) z) in
+    ap (λ (x : List ℤ). take n places ++ x) unused ∙ take-append-drop n places
+
+pub unused-of-pad : (size : ℕ) (l : List ℤ) → unusedHoldZero (length l) (pad (pos 0) size l) ≡ true
+unfolding pad unusedHoldZero
+unused-of-pad size l =
+    let rest = replicate (size - length l) (pos 0) in
+    ap (allOf isZero) (drop-append-seam l rest) ∙ replicate-zeros (size - length l)
+
+-- a word written at i, where the places after it hold 0: i + 1 places are used then
+pub pad-set : (size i : ℕ) (places : List ℤ) (w : ℤ) → length places ≡ size → i < size → unusedHoldZero (i + 1) places ≡ true
+    → set places i w ≡ pad (pos 0) size (take i places ++ (w ∷ []))
+unfolding unusedHoldZero
+pad-set size i places w e h z =
+    let used : take (i + 1) (set places i w) ≡ take i places ++ (w ∷ []) = rw add-one (take-suc-set places i w (omega arith)) in
+    let unused : drop (i + 1) (set places i w) ≡ drop (i + 1) places = drop-set-lt (i + 1) places i w (omega arith) in
+    let zero′ : unusedHoldZero (i + 1) (set places i w) ≡ true = ap (allOf isZero) unused ∙ z in
+    let whole = pad-take size (i + 1) (set places i w) (length-set places i w ∙ e) (omega arith) zero′ in
+    sym whole ∙ ap (pad (pos 0) size) used
+
+-- one place less is unused
+pub unused-after : (n : ℕ) (places : List ℤ) → n < length places → unusedHoldZero n places ≡ true → unusedHoldZero (n + 1) places ≡ true
+unfolding unusedHoldZero
+unused-after n places h z =
+    let rest = allOf isZero (drop (n + 1) places) in
+    both (isZero (getD places n (pos 0))) rest (sym (all-next isZero places n h) ∙ z) .1

@@ -7,7 +7,7 @@ use lib.ListN.{length, take, replicate}
 use lib.IntN.{ℤ, pos}
 use Rattle.guide.specs.Sizes.{baseMost, seriesMost}
 use Rattle.guide.specs.Rejection.{RejectionAnswer}
-use Rattle.guide.specs.State.{State, fresh, limitsFor}
+use Rattle.guide.specs.State.{State, state, fresh, limitsFor}
 use Rattle.guide.specs.Building.{BuildingAnswer, built, refused, building}
 use Rattle.limits.specs.declared.Limits.{Limits}
 use Rattle.limits.specs.Sums.{limitsSay, Bounded}
@@ -21,13 +21,7 @@ use Rattle.chart.specs.Pad.{pad}
 -- the state that a chart stands for
 unfoldable pub stateOf : Chart → State
 stateOf c =
-    record {
-      kind = c .kind;
-      base = take (c .«base_len») (c .base);
-      series = take (c .«series_len») (c .series);
-      status = c .status;
-      openVerdict = c .«open_verdict»;
-    }
+    state (c .kind) (take (c .«base_len») (c .base)) (take (c .«series_len») (c .series)) (c .status) (c .«open_verdict»)
 
 -- the chart that stands for a state: "unused places hold 0"
 unfoldable pub chartOf : State → Chart

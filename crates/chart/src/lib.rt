@@ -23,7 +23,9 @@ ghost use mathlib.Core.Bool.{true};
 ghost use mathlib.Core.List.{_++_};
 ghost use Prim.Native.Nat.{_+_, _≤_, _<_};
 ghost use lib.ListN.{length, take, getD};
+ghost use lib.Dec.{eqb};
 ghost use lib.IntN.{pos};
+ghost use Rattle.guide.specs.Choice.{require};
 ghost use Rattle.guide.specs.Sizes.{baseWanted, baseMost, seriesMost};
 ghost use Rattle.guide.specs.LastWords.{lastWords};
 ghost use Rattle.guide.specs.State.{limitsFor, addWord, replaceLast};
@@ -177,7 +179,7 @@ impl Chart {
     pub fn reanalyse(mut self, kind: u16, a: i64, b: i64, c: i64) -> Reanalysed
         ensures { λ r. ⌜ Gives self (machine.reanalysis kind a b c) (r .chart) (reanalysisSays (r .answer)) ⌝ }
     {
-        let number = self.reanalysis_refusal();
+        let number = self.status_refusal(1, 10);
         if number != 0 {
             return Reanalysed {
                 chart: self,
@@ -212,7 +214,7 @@ impl Chart {
     pub fn correct(mut self) -> Corrected
         ensures { λ r. ⌜ Gives self machine.correction (r .chart) (correctionSays (r .answer)) ⌝ }
     {
-        let number = self.correction_refusal();
+        let number = self.status_refusal(2, 11);
         if number != 0 {
             return Corrected {
                 chart: self,
@@ -250,14 +252,25 @@ impl Chart {
 
     // ---- what a call is declined for before what it brings is looked at: the number, or 0
 
-    fn post_refusal(self) -> u16
-        ensures { λ r. ⌜ r ≡ refusalOn self (machine.postRefusal (stateOf self)) ⌝ }
+    // 14 for a chart that is not sound, then the number given for a status that is not the one wanted.
+    fn status_refusal(self, wanted: u16, number: u16) -> u16
+        ensures { λ r. ⌜ r ≡ refusalOn self (require (eqb (self .status) wanted) number 0) ⌝ }
     {
         if !self.sound() {
             return 14;
         }
-        if self.status != 0 {
-            return 8;
+        if self.status != wanted {
+            return number;
+        }
+        0
+    }
+
+    fn post_refusal(self) -> u16
+        ensures { λ r. ⌜ r ≡ refusalOn self (machine.postRefusal (stateOf self)) ⌝ }
+    {
+        let number = self.status_refusal(0, 8);
+        if number != 0 {
+            return number;
         }
         if Chart::SERIES_MOST <= self.series_len {
             return 9;
@@ -265,38 +278,12 @@ impl Chart {
         0
     }
 
-    fn reanalysis_refusal(self) -> u16
-        ensures { λ r. ⌜ r ≡ refusalOn self (machine.reanalysisRefusal (stateOf self)) ⌝ }
-    {
-        if !self.sound() {
-            return 14;
-        }
-        if self.status != 1 {
-            return 10;
-        }
-        0
-    }
-
-    fn correction_refusal(self) -> u16
-        ensures { λ r. ⌜ r ≡ refusalOn self (machine.correctionRefusal (stateOf self)) ⌝ }
-    {
-        if !self.sound() {
-            return 14;
-        }
-        if self.status != 2 {
-            return 11;
-        }
-        0
-    }
-
     fn renewal_refusal(self) -> u16
         ensures { λ r. ⌜ r ≡ refusalOn self (machine.renewalRefusal (stateOf self)) ⌝ }
     {
-        if !self.sound() {
-            return 14;
-        }
-        if self.status != 0 {
-            return 8;
+        let number = self.status_refusal(0, 8);
+        if number != 0 {
+            return number;
         }
         if self.base_len + self.series_len < Chart::BASE_WANTED {
             return 12;

@@ -16,6 +16,7 @@ ghost use Rattle.guide.specs.AllOf.{noneOf};
 ghost use Rattle.guide.specs.Limits.{beyondControl};
 ghost use Rattle.guide.specs.Soundness.{areCounts, wordsSound, limitsHold, openFits, statusFits, sound};
 ghost use Rattle.limits.specs.Sums.{limitsSay, Bounded};
+ghost use Rattle.guide.specs.State.{state};
 ghost use Rattle.chart.specs.Chart.{stateOf};
 ghost use Rattle.chart.specs.Soundness.{unusedHoldZero, placesSound, soundChart};
 
@@ -62,16 +63,21 @@ fn state_sound(c: Chart) -> bool
     requires { ⌜ (c .«base_len» ≤ baseMost) × (c .«series_len» ≤ seriesMost) ⌝ }
     ensures { λ r. ⌜ r ≡ sound (stateOf c) ⌝ }
 {
-    let kind = c.kind;
     let n = c.base_len;
     let m = c.series_len;
     let base = c.base;
     let series = c.series;
-    let l = limits_of(kind, &base[..n]);
-    let words = words_sound(kind, &base[..n], &series[..m]);
-    let limits = limits_hold(l, &base[..n], &series[..m], c.status);
-    let status = status_fits(l, &series[..m], c.status, c.open_verdict);
-    words & (limits & status)
+    is_sound(c.kind, &base[..n], &series[..m], c.status, c.open_verdict)
+}
+
+// The state with these parts is sound.
+fn is_sound(kind: u16, base: &[i16], series: &[i16], status: u16, open_verdict: u16) -> bool
+    requires { ⌜ length (now base) ≤ baseMost ⌝ }
+    ensures { λ r. ⌜ r ≡ sound (state kind (now (base .entry)) (now (series .entry)) status «open_verdict») ⌝ }
+{
+    let l = limits_of(kind, base);
+    let limits = limits_hold(l, base, series, status) & status_fits(l, series, status, open_verdict);
+    words_sound(kind, base, series) & limits
 }
 
 // The kind, the numbers of words, and their range.

@@ -3,8 +3,8 @@ use mathlib.Core.Path.{_≡_}
 use mathlib.Core.List.{List, [], _∷_, _++_}
 use Prim.Native.Nat.{ℕ, _+_, _-_, _≤_}
 use native.Mathlib.Omega.{arith}
-use lib.ListN.{length, length-append, length-drop}
-use lib.Seq.{take-append-seam, getD-append-seam, length-take-le}
+use lib.ListN.{length, getD, length-append, length-drop}
+use lib.Seq.{take-append-seam, getD-append-seam, getD-drop, length-take-le}
 use lib.IntN.{ℤ, pos}
 use Rattle.guide.specs.LastWords.{lastWords, butLast, lastWord}
 use Rattle.guide.specs.Rejection.{InOrder}
@@ -46,3 +46,8 @@ last-words-in-order k ws = drop-in-order (length ws - k) ws
 pub length-last-words : (k : ℕ) (ws : List ℤ) → k ≤ length ws → length (lastWords k ws) ≡ k
 unfolding lastWords
 length-last-words k ws h = omega (arith, length-drop (length ws - k) ws)
+
+-- the word at i of the last k
+pub last-words-at : (k : ℕ) (ws : List ℤ) (i : ℕ) → getD (lastWords k ws) i (pos 0) ≡ getD ws (length ws - k + i) (pos 0)
+unfolding lastWords
+last-words-at k ws i = getD-drop (length ws - k) ws i (pos 0)

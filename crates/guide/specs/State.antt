@@ -14,9 +14,14 @@ pub record State : Type 0 where
   pub status : ℕ
   pub openVerdict : ℕ
 
+-- the state with these parts
+abbrev pub state : ℕ → List ℤ → List ℤ → ℕ → ℕ → State
+state kind base series status openVerdict =
+    record { kind = kind; base = base; series = series; status = status; openVerdict = openVerdict }
+
 -- "A fresh chart has an empty series and status 0", so its open verdict is 0
 unfoldable pub fresh : ℕ → List ℤ → State
-fresh kind base = record { kind = kind; base = base; series = []; status = 0; openVerdict = 0 }
+fresh kind base = state kind base [] 0 0
 
 -- what a chart's words are judged by, beside the series
 unfoldable pub limitsFor : State → Limits
@@ -24,15 +29,12 @@ limitsFor s = limitsOf (s .kind) (s .base)
 
 -- the same state with a word added to the series
 unfoldable pub addWord : State → ℤ → State
-addWord s w =
-    record { kind = s .kind; base = s .base; series = s .series ++ (w ∷ []); status = s .status; openVerdict = s .openVerdict }
+addWord s w = state (s .kind) (s .base) (s .series ++ (w ∷ [])) (s .status) (s .openVerdict)
 
 -- .. with a word in the place of the series' last
 unfoldable pub replaceLast : State → ℤ → State
-replaceLast s w =
-    record { kind = s .kind; base = s .base; series = butLast (s .series) ++ (w ∷ []); status = s .status; openVerdict = s .openVerdict }
+replaceLast s w = state (s .kind) (s .base) (butLast (s .series) ++ (w ∷ [])) (s .status) (s .openVerdict)
 
 -- .. with this status and this open verdict
 unfoldable pub setStatus : State → ℕ → ℕ → State
-setStatus s status openVerdict =
-    record { kind = s .kind; base = s .base; series = s .series; status = status; openVerdict = openVerdict }
+setStatus s status openVerdict = state (s .kind) (s .base) (s .series) status openVerdict

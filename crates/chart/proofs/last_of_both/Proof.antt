@@ -1,58 +1,93 @@
+-- `chart::last_of_both` meets its contract. The loop's invariant: the first of the last 15 words stand in their places.
+use mathlib.Core.Path.{_≡_, refl, sym, ap, _∙_}
+use mathlib.Core.List.{List, _++_}
+use Prim.Native.Nat.{_+_, _-_, _≤_}
+use native.Mathlib.Omega.{arith}
+use borrow.Author.Needs.{needs, sfits-of}
+use denote.Ref.{now}
+use lib.ListN.{length, take, getD, length-append, set}
+use lib.Seq.{take-all}
+use lib.IntN.{ℤ, pos}
+use mir.Facts.{toZ-ofZ}
+use Rattle.guide.specs.Sizes.{baseWanted, baseMost}
+use Rattle.guide.specs.LastWords.{lastWords}
+use Rattle.guide.proofs.LastWords.{length-last-words, last-words-at}
+use Rattle.chart.specs.Pad.{pad}
+use Rattle.chart.proofs.Places.{pad-next}
 use Rattle.chart.proofs.last_of_both.Statement.{statement}
 use Rattle.chart.proofs.last_of_both.Tie as tie
-use Rattle.chart.proofs.last_of_both.Reads as reads
-use Rattle.chart.proofs.last_of_both.Lts as lts
-use Rattle.chart.proofs.word_at.Reads as word-at-reads
 
 abbrev Inv-loop : tie.InvT-loop
-Inv-loop base series first words₀ i₀ words i = ?
+Inv-loop base series first words₀ i₀ words i =
+    (i ≤ baseWanted) × (words ≡ pad (pos 0) baseMost (take i (lastWords baseWanted (base ++ series))))
 
 abbrev μ-loop : tie.MeasureT-loop
-μ-loop base series first words₀ i₀ words i = ?
+μ-loop base series first words₀ i₀ words i = baseWanted - i
 
--- src/lib.rt:441:17
 add-first : tie.Need-add-first Inv-loop μ-loop
-add-first c = ?
+add-first c = search needs
 
--- src/lib.rt:441:17
 sub-first : tie.Need-sub-first Inv-loop μ-loop
-sub-first c = ?
+sub-first c = omega (arith, c .pre)
 
--- src/lib.rt:444:5
 loop-holds : tie.Need-loop-holds Inv-loop μ-loop
-loop-holds c = ?
+unfolding pad
+loop-holds c = (omega arith, refl)
 
--- src/lib.rt:445:42
 add-word-at : tie.Need-add-word-at Inv-loop μ-loop
-add-word-at c = ?
+add-word-at c = omega (arith, c .before .before .pre)
 
--- src/lib.rt:445:20
 word-at-requires : tie.Need-word-at-requires Inv-loop μ-loop
-word-at-requires c κs = ?
+word-at-requires c κs = omega (arith, c .before .before .pre)
 
--- src/lib.rt:445:9
 mul-words : tie.Need-mul-words Inv-loop μ-loop
-mul-words c = ?
+mul-words c = search needs
 
--- src/lib.rt:445:9
 array-set-from-words : tie.Need-array-set-from-words Inv-loop μ-loop
-array-set-from-words c = ?
+array-set-from-words c = omega arith
 
--- src/lib.rt:446:9
 add-i : tie.Need-add-i Inv-loop μ-loop
-add-i c = ?
+add-i c = omega arith
 
--- src/lib.rt:444:5
 loop-less : tie.Need-loop-less Inv-loop μ-loop
-loop-less c = ?
+loop-less c = omega arith
 
--- src/lib.rt:444:5
+-- the words that are taken, and their number
+abbrev both : tie.Start Inv-loop μ-loop → List ℤ
+both c = now (c .args .base) ++ now (c .args .series)
+
+abbrev last : tie.Start Inv-loop μ-loop → List ℤ
+last c = lastWords baseWanted (both c)
+
+all-words : (c : tie.Start Inv-loop μ-loop) → length (both c) ≡ length (now (c .args .base)) + length (now (c .args .series))
+all-words c = length-append (now (c .args .base)) (now (c .args .series))
+
+counted : (c : tie.Start Inv-loop μ-loop) → length (last c) ≡ baseWanted
+counted c = length-last-words baseWanted (both c) (omega (arith, all-words c, c .pre))
+
+-- what the call gave is the next of them
+taken : (c : tie.After-word-at Inv-loop μ-loop) → let l = c .before .before in
+    c .word-at .result ≡ getD (last (l .before)) (l .loop .i) (pos 0)
+taken c =
+    let l = c .before .before in
+    let place : length (now (l .before .args .base)) + length (now (l .before .args .series)) - baseWanted ≡ length (both (l .before)) - baseWanted =
+    omega (arith, all-words (l .before)) in
+    c .word-at .ensures ∙ rw place (sym (last-words-at baseWanted (both (l .before)) (l .loop .i)))
+
 loop-again : tie.Need-loop-again Inv-loop μ-loop
-loop-again c = ?
+loop-again c =
+    let l = c .before .before in
+    let i = l .loop .i in
+    let few = counted (l .before) in (
+      omega arith,
+      rw (toZ-ofZ (sfits-of (c .word-at .ok)), taken c, l .loop .inv .1)
+      (pad-next (pos 0) baseMost (last (l .before)) i (pos 0) (omega arith) (omega arith)),
+    )
 
--- src/lib.rt:437:1
 returns : tie.Need-returns Inv-loop μ-loop
-returns c = ?
+returns c =
+    let l = c .before in
+    l .loop .inv .1 ∙ ap (pad (pos 0) baseMost) (take-all (l .loop .i) (last (l .before)) (omega (arith, counted (l .before))))
 
 pub last-of-both-spec : {M : Type 1} → statement M
 last-of-both-spec =

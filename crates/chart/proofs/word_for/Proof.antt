@@ -1,21 +1,25 @@
+-- `chart::word_for` meets its contract.
 use borrow.Author.Needs.{needs}
+use borrow.Author.Tests.{eq-eqb, ne-eqb}
+use mir.Facts.{toZ-ofZ}
+use Rattle.guide.specs.Machine.{wordFor}
+use Rattle.words.specs.Formed.{formedSays}
 use Rattle.chart.proofs.word_for.Statement.{statement}
 use Rattle.chart.proofs.word_for.Tie as tie
-use Rattle.chart.proofs.word_for.Reads as reads
-use Rattle.chart.proofs.word_for.Lts as lts
-use Rattle.words.proofs.from_reading.Reads as from-reading-reads
 
--- src/lib.rt:469:9
 returns : tie.Need-returns
-returns c = ?
+unfolding wordFor formedSays
+returns c = rw (ne-eqb (c .before .args .kind) (c .before .args .chart-kind) (c .if1 .taken))
 
--- src/lib.rt:471:5
 from-reading-requires : tie.Need-from-reading-requires
 from-reading-requires c κs = search needs
 
--- src/lib.rt:465:1
 returns-2 : tie.Need-returns-2
-returns-2 c = ?
+unfolding wordFor
+returns-2 c =
+    let a = c .before .before in
+    rw (eq-eqb (a .args .kind) (a .args .chart-kind) (c .before .if1 .left))
+    (rw (toZ-ofZ (a .fits .a), toZ-ofZ (a .fits .b), toZ-ofZ (a .fits .c)) at (c .from-reading .ensures))
 
 pub word-for-spec : {M : Type 1} → statement M
 word-for-spec = tie.close (tie.spec returns from-reading-requires returns-2)

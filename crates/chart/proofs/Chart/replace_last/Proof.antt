@@ -1,24 +1,25 @@
+-- `chart::Chart::replace_last` meets its contract.
+use native.Mathlib.Omega.{arith}
 use borrow.Author.Needs.{needs}
+use mir.Facts.{toZ-ofZ}
+use Rattle.chart.proofs.State.{Given, given, last-replaced}
 use Rattle.chart.proofs.Chart.replace_last.Statement.{statement}
 use Rattle.chart.proofs.Chart.replace_last.Tie as tie
-use Rattle.chart.proofs.Chart.replace_last.Reads as reads
-use Rattle.chart.proofs.Chart.replace_last.Lts as lts
 
--- src/lib.rt:358:20
+sound-self : (c : tie.Start) → Given (c .args .t1)
+sound-self c = given (c .args .t1) (search needs) (search needs) (c .pre .0)
+
 sub-last : tie.Need-sub-last
 sub-last c = search needs
 
--- src/lib.rt:359:9
 mul-w : tie.Need-mul-w
-mul-w c = ?
+mul-w c = omega (arith, sound-self c .within .series-few)
 
--- src/lib.rt:359:9
 element-set-from-w : tie.Need-element-set-from-w
-element-set-from-w c = ?
+element-set-from-w c = omega (arith, sound-self c .within .series-few, c .pre .1)
 
--- src/lib.rt:354:5
 returns : tie.Need-returns
-returns c = ?
+returns c = rw (toZ-ofZ (c .fits .w)) (last-replaced (c .args .t1) (sound-self c) (c .args .w) (c .pre .1))
 
 pub replace-last-spec : {M : Type 1} → statement M
 replace-last-spec = tie.close (tie.spec sub-last mul-w element-set-from-w returns)

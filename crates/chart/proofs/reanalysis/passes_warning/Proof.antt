@@ -1,17 +1,23 @@
+-- `chart::reanalysis::passes_warning` meets its contract.
+use mathlib.Core.Path.{ap, _∙_}
+use mathlib.Core.Bool.{_||_, not}
 use borrow.Author.Needs.{needs}
+use mir.Facts.{toZ-ofZ}
+use Rattle.guide.specs.Limits.{beyond, beyondWarning, beyondUpperWarning, beyondLowerWarning}
+use Rattle.guide.specs.Reanalysis.{passesWarning}
+use Rattle.limits.specs.Sums.{limitsSay}
 use Rattle.chart.proofs.reanalysis.passes_warning.Statement.{statement}
 use Rattle.chart.proofs.reanalysis.passes_warning.Tie as tie
-use Rattle.chart.proofs.reanalysis.passes_warning.Reads as reads
-use Rattle.chart.proofs.reanalysis.passes_warning.Lts as lts
-use Rattle.limits.proofs.beyond_warning.Reads as beyond-warning-reads
 
--- src/reanalysis.rt:45:9
 beyond-warning-requires : tie.Need-beyond-warning-requires
 beyond-warning-requires c κs = search needs
 
--- src/reanalysis.rt:41:1
 returns : tie.Need-returns
-returns c = ?
+unfolding passesWarning beyondWarning beyond beyondUpperWarning beyondLowerWarning
+returns c =
+    let start = c .before .before in
+    let is = c .before .beyond-warning .ensures in
+    (λ i. not (is .upper i || is .lower i)) ∙ ap (passesWarning (limitsSay (start .args .l))) (toZ-ofZ (start .fits .w))
 
 pub passes-warning-spec : {M : Type 1} → statement M
 passes-warning-spec = tie.close (tie.spec beyond-warning-requires returns)

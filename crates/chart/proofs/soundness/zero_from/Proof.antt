@@ -1,45 +1,57 @@
+-- `chart::soundness::zero_from` meets its contract. The loop's invariant: the places from n on hold 0 exactly if those that remain do.
+use mathlib.Core.Path.{_≡_, refl, sym, _∙_}
+use mathlib.Core.Bool.{Bool}
+use Prim.Native.Nat.{ℕ, _-_}
+use native.Mathlib.Omega.{arith}
+use borrow.Author.Needs.{needs, sfits-of}
+use denote.Ref.{now}
+use lib.ListN.{length, drop}
+use Rattle.guide.specs.AllOf.{allOf}
+use Rattle.guide.proofs.AllOf.{all-none, all-fails, all-passes}
+use Rattle.chart.specs.Soundness.{isZero, unusedHoldZero}
+use Rattle.chart.proofs.Places.{zero-held, not-zero-held}
 use Rattle.chart.proofs.soundness.zero_from.Statement.{statement}
 use Rattle.chart.proofs.soundness.zero_from.Tie as tie
-use Rattle.chart.proofs.soundness.zero_from.Reads as reads
-use Rattle.chart.proofs.soundness.zero_from.Lts as lts
 
 abbrev Inv-loop : tie.InvT-loop
-Inv-loop places n i₀ i = ?
+Inv-loop places n i₀ i = allOf isZero (drop i places) ≡ allOf isZero (drop n places)
 
 abbrev μ-loop : tie.MeasureT-loop
-μ-loop places n i₀ i = ?
+μ-loop places n i₀ i = length places - i
 
--- src/soundness.rt:50:5
 loop-holds : tie.Need-loop-holds Inv-loop μ-loop
-loop-holds c = ?
+loop-holds c = refl
 
--- src/soundness.rt:51:17
 mul-w : tie.Need-mul-w Inv-loop μ-loop
-mul-w c = ?
+mul-w c = search needs
 
--- src/soundness.rt:51:17
 shared-slice-copy-out-w : tie.Need-shared-slice-copy-out-w Inv-loop μ-loop
-shared-slice-copy-out-w c = ?
+shared-slice-copy-out-w c = search needs
 
--- src/soundness.rt:53:13
 returns : tie.Need-returns Inv-loop μ-loop
-returns c = ?
+unfolding unusedHoldZero
+returns c =
+    let l = c .before .before .before in
+    let fails = not-zero-held (sfits-of (c .before .w .given)) (c .if1 .taken) in
+    sym (all-fails isZero (now (l .before .args .places)) (l .loop .i) (c .before .before .loop-test .taken) fails) ∙ l .loop .inv
 
--- src/soundness.rt:55:9
 add-i : tie.Need-add-i Inv-loop μ-loop
-add-i c = ?
+add-i c = search needs
 
--- src/soundness.rt:50:5
 loop-less : tie.Need-loop-less Inv-loop μ-loop
-loop-less c = ?
+loop-less c = omega arith
 
--- src/soundness.rt:50:5
 loop-again : tie.Need-loop-again Inv-loop μ-loop
-loop-again c = ?
+loop-again c =
+    let l = c .before .before .before in
+    let passes = zero-held (sfits-of (c .before .w .given)) (c .if1 .left) in
+    sym (all-passes isZero (now (l .before .args .places)) (l .loop .i) (c .before .before .loop-test .taken) passes) ∙ l .loop .inv
 
--- src/soundness.rt:46:1
 returns-2 : tie.Need-returns-2 Inv-loop μ-loop
-returns-2 c = ?
+unfolding unusedHoldZero
+returns-2 c =
+    let l = c .before in
+    sym (all-none isZero (now (l .before .args .places)) (l .loop .i) (c .loop-test .left)) ∙ l .loop .inv
 
 pub zero-from-spec : {M : Type 1} → statement M
 zero-from-spec =

@@ -1,11 +1,12 @@
+-- `chart::verdict::judges_side` meets its contract.
+use mathlib.Core.Path.{refl}
+use Rattle.guide.specs.Kind.{judgesSide}
 use Rattle.chart.proofs.verdict.judges_side.Statement.{statement}
 use Rattle.chart.proofs.verdict.judges_side.Tie as tie
-use Rattle.chart.proofs.verdict.judges_side.Reads as reads
-use Rattle.chart.proofs.verdict.judges_side.Lts as lts
 
--- src/verdict.rt:103:1
 returns : tie.Need-returns
-returns c = ?
+unfolding judgesSide
+returns c = refl
 
 pub judges-side-spec : {M : Type 1} → statement M
 judges-side-spec = tie.close (tie.spec returns)

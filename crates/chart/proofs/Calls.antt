@@ -1,0 +1,175 @@
+-- Laws of the calls: where a call is declined, where it is not, and what it then gives. One shape for all four.
+use mathlib.Core.Path.{_≡_, refl, sym, ap, _∙_}
+use mathlib.Core.Bool.{Bool, true, false}
+use mathlib.Core.List.{List, _++_}
+use Prim.Native.Nat.{ℕ, zero, suc}
+use lib.ListN.{length, take}
+use lib.IntN.{ℤ, pos}
+use native.Mathlib.Omega.{arith}
+use Rattle.guide.specs.Choice.{require, choose}
+use Rattle.guide.specs.Sizes.{baseWanted, baseMost, seriesMost}
+use Rattle.guide.specs.Word as word
+use Rattle.guide.specs.LastWords.{lastWords}
+use Rattle.guide.specs.Rejection.{rejection}
+use Rattle.guide.specs.State.{State, fresh, limitsFor, addWord, replaceLast, setStatus}
+use Rattle.guide.specs.Verdict.{verdict, statusFor}
+use Rattle.guide.specs.Reanalysis.{passes}
+use Rattle.guide.specs.Machine.{Call, post, reanalysis, correction, renewal, Answer, judged, reanalysed, corrected, renewed, refused}
+use Rattle.guide.specs.Machine.{Next, declined, refusalFor, wordFor, posting, afterReanalysis, reanalysing, correcting, renewing, performed}
+use Rattle.guide.specs.Machine.{step}
+use Rattle.guide.proofs.Booleans.{by-test}
+use Rattle.chart.specs.Pad.{pad}
+use Rattle.chart.specs.declared.Chart.{Chart}
+use Rattle.chart.specs.declared.Settled.{Settled}
+use Rattle.chart.specs.Chart.{stateOf, chartOf, withStatus, IsSettled}
+use Rattle.chart.specs.Soundness.{soundChart}
+use Rattle.chart.specs.Calls.{nextChart, answerTo, Gives, refusalOn}
+use Rattle.chart.proofs.Places.{take-pad}
+use Rattle.chart.proofs.State.{Given, given, chart-of-state}
+
+-- ---- the number that a call is declined for
+
+-- 14 and the number k for the status come first; where they do not apply, the rest decides
+module _ (c : Chart) (n k rest : ℕ) (free : Bool) (e : n ≡ refusalOn c (require free (suc k) 0)) where
+  first-by : (t u : Bool) → n ≡ require t 14 (require u (suc k) 0) → (n ≡ 0 → ⊥) → n ≡ require t 14 (require u (suc k) rest)
+  first-by true true f ne = absurd (ne f)
+  first-by true false f ne = f
+  first-by false u f ne = f
+
+  pub status-declines : (n ≡ 0 → ⊥) → n ≡ refusalOn c (require free (suc k) rest)
+  unfolding refusalOn
+  status-declines ne = first-by (soundChart c) free e ne
+
+  then-by : (t u : Bool) → n ≡ require t 14 (require u (suc k) 0) → n ≡ 0 → (t ≡ true) × (rest ≡ require t 14 (require u (suc k) rest))
+  then-by true true f z = (refl, refl)
+  then-by true false f z = absurd (omega arith)
+  then-by false u f z = absurd (omega arith)
+
+  pub status-allows : n ≡ 0 → (soundChart c ≡ true) × (rest ≡ refusalOn c (require free (suc k) rest))
+  unfolding refusalOn
+  status-allows z = then-by (soundChart c) free e z
+
+-- ---- one step of the machine
+
+declines : (s : State) (call : Call) (n : ℕ) → n ≡ refusalFor s call → (n ≡ 0 → ⊥) → step s call ≡ declined s n
+unfolding step
+declines s call zero e ne = absurd (ne refl)
+declines s call (suc n) e ne = rw (← e)
+
+performs : (s : State) (call : Call) → refusalFor s call ≡ 0 → step s call ≡ performed s call
+unfolding step
+performs s call e = rw e
+
+-- ---- what a call gives, by the machine's step from a sound chart
+
+module _ (c : Chart) (call : Call) (next : Next) (t : soundChart c ≡ true) (e : step (stateOf c) call ≡ next) where
+  gives : (d : Chart) (a : Answer) → d ≡ chartOf (next .state) → a ≡ next .answer → Gives c call d a
+  unfolding nextChart answerTo
+  gives d a p q = record { chart = rw (t, e) p; says = rw (t, e) q }
+
+-- ---- a call that is declined before what it brings is looked at: n is the number, and the same chart comes back
+
+module _ (c : Chart) (call : Call) (n : ℕ) (base : length (c .base) ≡ baseMost) (series : length (c .series) ≡ seriesMost)
+    (e : n ≡ refusalOn c (refusalFor (stateOf c) call)) where
+  by-machine : soundChart c ≡ true → (n ≡ 0 → ⊥) → Gives c call c (refused n)
+  unfolding refusalOn
+  by-machine t ne =
+      let number : n ≡ refusalFor (stateOf c) call = rw t at e in
+      let step-is = declines (stateOf c) call n number ne in
+      gives c call (declined (stateOf c) n) t step-is c (refused n) (sym (chart-of-state c (given c base series t))) refl
+
+  unsound : soundChart c ≡ false → Gives c call c (refused n)
+  unfolding nextChart answerTo refusalOn
+  unsound t =
+      let number : n ≡ 14 = rw t at e in
+      record { chart = rw t; says = rw t (ap refused number) }
+
+  pub call-declined : (n ≡ 0 → ⊥) → Gives c call c (refused n)
+  call-declined ne = by-test (soundChart c) (λ t. by-machine t ne) unsound
+
+-- ---- a call that is not
+
+-- the chart is sound, its state is known, and the machine performs the call
+pub record Accepted (c : Chart) (call : Call) : Type 0 where
+  pub sound : Given c
+  pub is-sound : soundChart c ≡ true
+  pub nothing : refusalFor (stateOf c) call ≡ 0
+
+zero-if-sound : (t : Bool) (n : ℕ) → 0 ≡ require t 14 n → (t ≡ true) × (n ≡ 0)
+zero-if-sound true n e = (refl, sym e)
+zero-if-sound false n e = absurd (omega arith)
+
+pub call-accepted : (c : Chart) (call : Call) (n : ℕ) → length (c .base) ≡ baseMost → length (c .series) ≡ seriesMost
+    → n ≡ refusalOn c (refusalFor (stateOf c) call) → n ≡ 0 → Accepted c call
+unfolding refusalOn
+call-accepted c call n base series e z =
+    let parts = zero-if-sound (soundChart c) (refusalFor (stateOf c) call) (sym z ∙ e) in
+    record { sound = given c base series (parts .0); is-sound = parts .0; nothing = parts .1 }
+
+module _ (c : Chart) (call : Call) (k : Accepted c call) where
+  performed-gives : (next : Next) → performed (stateOf c) call ≡ next → (d : Chart) (a : Answer) → d ≡ chartOf (next .state)
+      → a ≡ next .answer → Gives c call d a
+  performed-gives next e = gives c call next (k .is-sound) (performs (stateOf c) call (k .nothing) ∙ e)
+
+-- ---- status and verdict set
+
+status-set : (s : State) (c : Chart) (status v : ℕ) → c ≡ chartOf s → withStatus c status v ≡ chartOf (setStatus s status v)
+unfolding withStatus setStatus chartOf
+status-set s c status v e = ap (λ (x : Chart). withStatus x status v) e
+
+-- ---- the four calls
+
+module _ (c : Chart) (call : Call) (k : Accepted c call) where
+  -- what the call brings is declined
+  pub reading-declined : (n : ℕ) → performed (stateOf c) call ≡ declined (stateOf c) n → Gives c call c (refused n)
+  reading-declined n e = performed-gives c call k (declined (stateOf c) n) e c (refused n) (sym (chart-of-state c (k .sound))) refl
+
+module _ (c : Chart) (kind : ℕ) (a b x w : ℤ) (formed : wordFor (stateOf c .kind) kind a b x ≡ word.formed w) where
+  -- the word is added with its verdict
+  pub posted : Accepted c (post kind a b x) → (v status : ℕ) (added d : Chart) → v ≡ verdict (limitsFor (stateOf c)) (addWord (stateOf c) w .series)
+      → added ≡ chartOf (addWord (stateOf c) w) → status ≡ statusFor v → d ≡ withStatus added status v → Gives c (post kind a b x) d (judged w v)
+  unfolding posting addWord
+  posted k v status added d e f g h =
+      let s = stateOf c in
+      let set = status-set (addWord s w) added status v f ∙ (λ i. chartOf (setStatus (addWord s w) ((g ∙ ap statusFor e) i) (e i))) in
+      performed-gives c (post kind a b x) k (posting s w) (rw formed) d (judged w v) (h ∙ set) (ap (judged w) e)
+
+  -- the word passes for the last, or fails
+  pub passed : Accepted c (reanalysis kind a b x) → (replaced d : Chart)
+      → passes (limitsFor (stateOf c)) (stateOf c .openVerdict) (stateOf c .series) w ≡ true
+      → replaced ≡ chartOf (replaceLast (stateOf c) w) → d ≡ withStatus replaced 0 0 → Gives c (reanalysis kind a b x) d (reanalysed w true)
+  unfolding reanalysing afterReanalysis
+  passed k replaced d t f h =
+      let s = stateOf c in
+      let set = status-set (replaceLast s w) replaced 0 0 f in
+      performed-gives c (reanalysis kind a b x) k (reanalysing s w) (rw formed) d (reanalysed w true) (rw t (h ∙ set)) (rw t)
+
+  pub failed : Accepted c (reanalysis kind a b x) → (d : Chart)
+      → passes (limitsFor (stateOf c)) (stateOf c .openVerdict) (stateOf c .series) w ≡ false
+      → d ≡ withStatus c 2 (c .«open_verdict») → Gives c (reanalysis kind a b x) d (reanalysed w false)
+  unfolding reanalysing afterReanalysis stateOf
+  failed k d t h =
+      let s = stateOf c in
+      let set = status-set s c 2 (c .«open_verdict») (sym (chart-of-state c (k .sound))) in
+      performed-gives c (reanalysis kind a b x) k (reanalysing s w) (rw formed) d (reanalysed w false) (rw t (h ∙ set)) (rw t)
+
+pub correction-gives : (c d : Chart) → Accepted c correction → d ≡ withStatus c 1 (c .«open_verdict») → Gives c correction d corrected
+unfolding correcting stateOf
+correction-gives c d k h =
+    let s = stateOf c in
+    let set = status-set s c 1 (c .«open_verdict») (sym (chart-of-state c (k .sound))) in
+    performed-gives c correction k (correcting s) refl d corrected (h ∙ set) refl
+
+pub renewal-gives : (c : Chart) (places : List ℤ) (r : Settled) → Accepted c renewal
+    → length (lastWords baseWanted (stateOf c .base ++ stateOf c .series)) ≡ baseWanted
+    → places ≡ pad (pos 0) baseMost (lastWords baseWanted (stateOf c .base ++ stateOf c .series))
+    → IsSettled (c .kind) (rejection (c .kind) (take baseWanted places)) r
+    → Gives c renewal (r .chart) (renewed (r .rounds) (r .removed))
+unfolding renewing stateOf
+renewal-gives c places r k count p h =
+    let s = stateOf c in
+    let words = lastWords baseWanted (s .base ++ s .series) in
+    let own : take baseWanted places ≡ words = ap (take baseWanted) p ∙ take-pad (pos 0) baseMost words baseWanted (sym count) in
+    let settled : IsSettled (c .kind) (rejection (c .kind) words) r = rw own at h in
+    performed-gives c renewal k (renewing s) refl (r .chart) (renewed (r .rounds) (r .removed)) (settled .chart)
+    (λ i. renewed (settled .rounds i) (settled .removed i))

@@ -1,0 +1,76 @@
+-- Laws of soundness: the words that have to lie within, and a sound chart as a record of facts.
+use mathlib.Core.Path.{_≡_, refl, ap, _∙_}
+use mathlib.Core.Bool.{Bool, true, false, _&&_}
+use mathlib.Core.List.{List}
+use Prim.Native.Nat.{ℕ, _-_, _≤_}
+use native.Mathlib.Omega.{arith}
+use lib.ListN.{length, take}
+use lib.Seq.{take-length}
+use lib.Dec.{leb, eqb}
+use lib.IntN.{ℤ}
+use borrow.Author.Tests.{leb-true}
+use Rattle.guide.specs.Choice.{choose}
+use Rattle.guide.specs.LastWords.{butLast}
+use Rattle.guide.specs.Sizes.{baseMost, seriesMost}
+use Rattle.guide.specs.Soundness.{heldWithin, sound}
+use Rattle.guide.proofs.Booleans.{both}
+use Rattle.chart.specs.declared.Chart.{Chart}
+use Rattle.chart.specs.Chart.{stateOf}
+use Rattle.chart.specs.Soundness.{unusedHoldZero, placesSound, soundChart}
+
+-- ---- the series words that have to lie within
+
+held-by : (free : Bool) (series : List ℤ) → take (choose free (length series) (length series - 1)) series ≡ choose free series (butLast series)
+unfolding butLast
+held-by true series = take-length series
+held-by false series = refl
+
+pub held-words : (status k : ℕ) (series : List ℤ) → k ≡ choose (eqb status 0) (length series) (length series - 1)
+    → take k series ≡ heldWithin status series
+unfolding heldWithin
+held-words status k series e = ap (λ (x : ℕ). take x series) e ∙ held-by (eqb status 0) series
+
+few-by : (free : Bool) (m : ℕ) → choose free m (m - 1) ≤ m
+few-by true m = omega arith
+few-by false m = omega arith
+
+pub held-few : (status k m : ℕ) → k ≡ choose (eqb status 0) m (m - 1) → k ≤ m
+held-few status k m e = omega (arith, few-by (eqb status 0) m)
+
+-- ---- a sound chart
+
+-- what the tests of the places say
+pub record PlacesSound (c : Chart) : Type 0 where
+  pub base-few : c .«base_len» ≤ baseMost
+  pub series-few : c .«series_len» ≤ seriesMost
+  pub base-zero : unusedHoldZero (c .«base_len») (c .base) ≡ true
+  pub series-zero : unusedHoldZero (c .«series_len») (c .series) ≡ true
+
+pub places-facts : (c : Chart) → placesSound c ≡ true → PlacesSound c
+unfolding placesSound
+places-facts c t =
+    let base = unusedHoldZero (c .«base_len») (c .base) in
+    let series = unusedHoldZero (c .«series_len») (c .series) in
+    let few = leb (c .«series_len») seriesMost in
+    let first = both (leb (c .«base_len») baseMost) (few && (base && series)) t in
+    let second = both few (base && series) (first .1) in
+    let third = both base series (second .1) in
+    record {
+      base-few = leb-true (c .«base_len») baseMost (first .0);
+      series-few = leb-true (c .«series_len») seriesMost (second .0);
+      base-zero = third .0;
+      series-zero = third .1;
+    }
+
+pub places-few : (c : Chart) → placesSound c ≡ true → (c .«base_len» ≤ baseMost) × (c .«series_len» ≤ seriesMost)
+places-few c t = let facts = places-facts c t in (facts .base-few, facts .series-few)
+
+pub record SoundChart (c : Chart) : Type 0 where
+  pub places : PlacesSound c
+  pub state : sound (stateOf c) ≡ true
+
+pub sound-chart-facts : (c : Chart) → soundChart c ≡ true → SoundChart c
+unfolding soundChart
+sound-chart-facts c t =
+    let parts = both (placesSound c) (sound (stateOf c)) t in
+    record { places = places-facts c (parts .0); state = parts .1 }
