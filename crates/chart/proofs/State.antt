@@ -10,6 +10,7 @@ use lib.IntN.{ℤ, pos}
 use Rattle.guide.specs.Sizes.{baseMost, seriesMost}
 use Rattle.guide.specs.LastWords.{butLast}
 use Rattle.guide.specs.State.{State, state, fresh, addWord, replaceLast}
+use Rattle.guide.proofs.Soundness.{sound-facts, not-free-facts}
 use Rattle.chart.specs.Pad.{pad}
 use Rattle.chart.specs.Chart.{stateOf, chartOf, freshChart}
 use Rattle.chart.specs.declared.Chart.{Chart}
@@ -147,3 +148,11 @@ module _ (c : Chart) (g : Given c) where
       let words : take (length (take n (c .series)) - 1) (take n (c .series)) ≡ take (n - 1) (c .series) =
       rw (series-count c (g .within)) (take-fewer (n - 1) n (c .series) (omega arith)) in
       rw words (written (n - 1) n w few zero (sym before))
+
+  -- a chart that is not free has a last word
+  pub some-series : (status : ℕ) → stateOf c .status ≡ status → 1 ≤ status → 1 ≤ c .«series_len»
+  unfolding stateOf
+  some-series status e h =
+      let s = stateOf c in
+      let opened = not-free-facts s (sound-facts s (g .facts .state)) (λ z. omega arith) in
+      omega (arith, opened .some-series, series-count c (g .within))

@@ -6,17 +6,17 @@
 // Every call declines first, with 14, a chart that is not sound, before it looks at any place. Then, in this order: post 8 (status not 0),
 // 9 (366 words in the series), 4 (a reading of another kind), 5, 6, 7; reanalyse 10 (status not 1), 4, 5, 6, 7; correct 11 (status not 2);
 // renew 8, 12 (base and series below 15). A refused call gives back the very chart that came.
-mod rejection;
-mod verdict;
 mod reanalysis;
+mod rejection;
 mod soundness;
+mod verdict;
 
+use limits::Limits;
+use limits::limits_of;
 use reanalysis::passes;
 use rejection::reject;
 use verdict::status_for;
 use verdict::verdict;
-use limits::Limits;
-use limits::limits_of;
 use words::Formed;
 ghost use mathlib.Core.Path.{_≡_};
 ghost use mathlib.Core.Bool.{true};
@@ -165,7 +165,10 @@ impl Chart {
                 self = self.set_status(status_for(v), v);
                 Posted {
                     chart: self,
-                    answer: PostAnswer::Judged { word: w, verdict: v },
+                    answer: PostAnswer::Judged {
+                        word: w,
+                        verdict: v,
+                    },
                 }
             }
             Formed::Refused(n) => Posted {

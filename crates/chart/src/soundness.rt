@@ -76,7 +76,8 @@ fn is_sound(kind: u16, base: &[i16], series: &[i16], status: u16, open_verdict: 
     ensures { λ r. ⌜ r ≡ sound (state kind (now (base .entry)) (now (series .entry)) status «open_verdict») ⌝ }
 {
     let l = limits_of(kind, base);
-    let limits = limits_hold(l, base, series, status) & status_fits(l, series, status, open_verdict);
+    let limits = limits_hold(l, base, series, status)
+        & status_fits(l, series, status, open_verdict);
     words_sound(kind, base, series) & limits
 }
 

@@ -81,7 +81,7 @@ loop-again c =
     let few = counted (l .before) in (
       omega arith,
       rw (toZ-ofZ (sfits-of (c .word-at .ok)), taken c, l .loop .inv .1)
-      (pad-next (pos 0) baseMost (last (l .before)) i (pos 0) (omega arith) (omega arith)),
+          (pad-next (pos 0) baseMost (last (l .before)) i (pos 0) (omega arith) (omega arith)),
     )
 
 returns : tie.Need-returns Inv-loop μ-loop
