@@ -5,3 +5,4 @@ mod SoundCharts
 mod State
 mod Building
 mod Calls
+mod Runs

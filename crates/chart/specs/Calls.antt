@@ -1,6 +1,7 @@
 -- What a call on a chart gives: the machine's step, through the state that the chart stands for. One shape for all four calls.
 use mathlib.Core.Path.{_≡_}
 use mathlib.Core.Bool.{true, false}
+use mathlib.Core.List.{List, [], _∷_}
 use Prim.Native.Nat.{ℕ}
 use Rattle.guide.specs.Choice.{require, choose}
 use Rattle.guide.specs.Machine.{Call, Answer, judged, reanalysed, corrected, renewed, refused, step}
@@ -51,3 +52,13 @@ correctionSays (correction.Refused n) = refused n
 unfoldable pub renewalSays : RenewalAnswer → Answer
 renewalSays (renewal.Done rounds removed) = renewed rounds removed
 renewalSays (renewal.Refused n) = refused n
+
+-- ---- a list of calls: "The first call takes the chart from building or reading, each later one the chart that the call before it gave back"
+
+unfoldable pub chartAfterCalls : Chart → List Call → Chart
+chartAfterCalls c [] = c
+chartAfterCalls c (call ∷ calls) = chartAfterCalls (nextChart c call) calls
+
+unfoldable pub answersTo : Chart → List Call → List Answer
+answersTo c [] = []
+answersTo c (call ∷ calls) = answerTo c call ∷ answersTo (nextChart c call) calls
