@@ -1,6 +1,5 @@
 mod Places
 mod Rounds
-mod Judging
 mod SoundCharts
 mod State
 mod Building

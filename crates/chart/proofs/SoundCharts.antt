@@ -1,4 +1,4 @@
--- Laws of soundness: the words that have to lie within, and a sound chart as a record of facts.
+-- A sound chart as a record of facts.
 use mathlib.Core.Path.{_≡_, refl, ap, _∙_}
 use mathlib.Core.Bool.{Bool, true, false, _&&_}
 use mathlib.Core.List.{List}
@@ -17,27 +17,6 @@ use Rattle.guide.proofs.Booleans.{both}
 use Rattle.chart.specs.declared.Chart.{Chart}
 use Rattle.chart.specs.Chart.{stateOf}
 use Rattle.chart.specs.Soundness.{unusedHoldZero, placesSound, soundChart}
-
--- ---- the series words that have to lie within
-
-held-by : (free : Bool) (series : List ℤ) → take (choose free (length series) (length series - 1)) series ≡ choose free series (butLast series)
-unfolding butLast
-held-by true series = take-length series
-held-by false series = refl
-
-pub held-words : (status k : ℕ) (series : List ℤ) → k ≡ choose (eqb status 0) (length series) (length series - 1)
-    → take k series ≡ heldWithin status series
-unfolding heldWithin
-held-words status k series e = ap (λ (x : ℕ). take x series) e ∙ held-by (eqb status 0) series
-
-few-by : (free : Bool) (m : ℕ) → choose free m (m - 1) ≤ m
-few-by true m = omega arith
-few-by false m = omega arith
-
-pub held-few : (status k m : ℕ) → k ≡ choose (eqb status 0) m (m - 1) → k ≤ m
-held-few status k m e = omega (arith, few-by (eqb status 0) m)
-
--- ---- a sound chart
 
 -- what the tests of the places say
 pub record PlacesSound (c : Chart) : Type 0 where

@@ -2,5 +2,4 @@ pub mod Pad
 pub mod Rejection
 pub mod Chart
 pub mod Soundness
-pub mod Judging
 pub mod Calls

@@ -6,18 +6,17 @@
 // Every call declines first, with 14, a chart that is not sound, before it looks at any place. Then, in this order: post 8 (status not 0),
 // 9 (366 words in the series), 4 (a reading of another kind), 5, 6, 7; reanalyse 10 (status not 1), 4, 5, 6, 7; correct 11 (status not 2);
 // renew 8, 12 (base and series below 15). A refused call gives back the very chart that came.
-mod reanalysis;
 mod rejection;
 mod soundness;
-mod verdict;
 
+use judging::reanalysis::passes;
+use judging::verdict::status_for;
+use judging::verdict::verdict;
 use limits::Limits;
 use limits::limits_of;
-use reanalysis::passes;
 use rejection::reject;
-use verdict::status_for;
-use verdict::verdict;
 use words::Formed;
+use words::word_for;
 ghost use mathlib.Core.Path.{_≡_};
 ghost use mathlib.Core.Bool.{true};
 ghost use mathlib.Core.List.{_++_};
@@ -30,11 +29,10 @@ ghost use Rattle.guide.specs.Sizes.{baseWanted, baseMost, seriesMost};
 ghost use Rattle.guide.specs.LastWords.{lastWords};
 ghost use Rattle.guide.specs.State.{limitsFor, addWord, replaceLast};
 ghost use Rattle.guide.specs.Rejection.{rejection};
-ghost use Rattle.guide.specs.Building.{isBuildCount, allInRange, buildRefusal};
-ghost use Rattle.guide.specs.Verdict as judging;
-ghost use Rattle.guide.specs.Reanalysis as reanalysing;
+ghost use Rattle.guide.specs.Building.{isBuildCount, buildRefusal};
+ghost use Rattle.guide.specs.Verdict as verdicts;
+ghost use Rattle.guide.specs.Reanalysis as reanalyses;
 ghost use Rattle.guide.specs.Machine as machine;
-ghost use Rattle.words.specs.Formed.{formedSays};
 ghost use Rattle.chart.specs.Pad.{pad};
 ghost use Rattle.chart.specs.Chart.{stateOf, chartOf, withStatus, zeroChart, freshChart, LimitsFor, IsSettled, Builds};
 ghost use Rattle.chart.specs.Soundness.{soundChart};
@@ -299,7 +297,7 @@ impl Chart {
     // The verdict that posting w would give.
     fn verdict_on(self, w: i16) -> u16
         requires { ⌜ (soundChart self ≡ true) × (self .«series_len» < seriesMost) ⌝ }
-        ensures { λ r. ⌜ r ≡ judging.verdict (limitsFor (stateOf self)) (addWord (stateOf self) w .series) ⌝ }
+        ensures { λ r. ⌜ r ≡ verdicts.verdict (limitsFor (stateOf self)) (addWord (stateOf self) w .series) ⌝ }
     {
         let l = self.limits();
         let mut series = self.series;
@@ -312,7 +310,7 @@ impl Chart {
     // Whether w passes in the place of the last word.
     fn passes_for_last(self, w: i16) -> bool
         requires { ⌜ soundChart self ≡ true ⌝ }
-        ensures { λ r. ⌜ r ≡ reanalysing.passes (limitsFor (stateOf self)) (self .«open_verdict») (stateOf self .series) w ⌝ }
+        ensures { λ r. ⌜ r ≡ reanalyses.passes (limitsFor (stateOf self)) (self .«open_verdict») (stateOf self .series) w ⌝ }
     {
         let l = self.limits();
         let series = self.series;
@@ -381,7 +379,7 @@ fn build_refusal(kind: u16, words: &[i16]) -> u16
     if !is_build_count(words) {
         return 2;
     }
-    if !all_in_range(kind, words) {
+    if !words::all_in_range(kind, words) {
         return 3;
     }
     0
@@ -392,20 +390,6 @@ fn is_build_count(words: &[i16]) -> bool
 {
     let n = words.len();
     (Chart::BASE_WANTED <= n) & (n <= Chart::BASE_MOST)
-}
-
-fn all_in_range(kind: u16, words: &[i16]) -> bool
-    ensures { λ r. ⌜ r ≡ allInRange kind (now (words .entry)) ⌝ }
-{
-    let mut i: usize = 0;
-    while i < words.len() {
-        let w = words[i];
-        if !words::in_range(kind, w as i64) {
-            return false;
-        }
-        i += 1;
-    }
-    true
 }
 
 // The words in the places of a base, with 0 in those that are not used.
@@ -449,16 +433,6 @@ fn word_at(base: &[i16], series: &[i16], i: usize) -> i16
     }
     let j = i - n;
     series[j]
-}
-
-// The word of a reading that comes to a chart: 4 for a reading of another kind, then 5, 6, 7.
-fn word_for(chart_kind: u16, kind: u16, a: i64, b: i64, c: i64) -> Formed
-    ensures { λ r. ⌜ formedSays r ≡ machine.wordFor «chart_kind» kind a b c ⌝ }
-{
-    if kind != chart_kind {
-        return Formed::Refused(4);
-    }
-    words::from_reading(kind, a, b, c)
 }
 
 // The fresh chart of the base that rejection leaves of the first n words.

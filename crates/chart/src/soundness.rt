@@ -1,21 +1,15 @@
 // Whether a chart is sound: document 01, "Stored form". Any value of the type may be handed in, so its lengths are looked at before a
 // place is.
 use crate::Chart;
-use crate::all_in_range;
-use crate::verdict::verdict;
-use limits::Limits;
-use limits::beyond_control;
+use judging::standing::limits_hold;
+use judging::standing::status_fits;
 use limits::limits_of;
+use words::all_in_range;
 ghost use mathlib.Core.Path.{_≡_};
-ghost use Prim.Native.Nat.{_-_, _≤_};
+ghost use Prim.Native.Nat.{_≤_};
 ghost use lib.ListN.{length};
-ghost use lib.Dec.{eqb};
-ghost use Rattle.guide.specs.Choice.{choose};
 ghost use Rattle.guide.specs.Sizes.{baseMost, seriesMost};
-ghost use Rattle.guide.specs.AllOf.{noneOf};
-ghost use Rattle.guide.specs.Limits.{beyondControl};
-ghost use Rattle.guide.specs.Soundness.{areCounts, wordsSound, limitsHold, openFits, statusFits, sound};
-ghost use Rattle.limits.specs.Sums.{limitsSay, Bounded};
+ghost use Rattle.guide.specs.Soundness.{areCounts, wordsSound, sound};
 ghost use Rattle.guide.specs.State.{state};
 ghost use Rattle.chart.specs.Chart.{stateOf};
 ghost use Rattle.chart.specs.Soundness.{unusedHoldZero, placesSound, soundChart};
@@ -95,61 +89,4 @@ fn are_counts(base: usize, series: usize) -> bool
 {
     let is_base = (Chart::BASE_LEAST <= base) & (base <= Chart::BASE_MOST);
     is_base & (series <= Chart::SERIES_MOST)
-}
-
-// No base word is beyond a control limit, and no series word, save the last while status is not 0.
-fn limits_hold(l: Limits, base: &[i16], series: &[i16], status: u16) -> bool
-    requires { ⌜ Bounded (l .sums) ⌝ }
-    ensures { λ r. ⌜ r ≡ limitsHold (limitsSay l) (now (base .entry)) (now (series .entry)) status ⌝ }
-{
-    let k = held_count(series.len(), status);
-    none_beyond_control(l, base) & none_beyond_control(l, &series[..k])
-}
-
-// How many of the series' m words have to lie within.
-fn held_count(m: usize, status: u16) -> usize
-    ensures { λ r. ⌜ r ≡ choose (eqb status 0) m (m - 1) ⌝ }
-{
-    if status == 0 {
-        return m;
-    }
-    if m == 0 {
-        return 0;
-    }
-    m - 1
-}
-
-fn none_beyond_control(l: Limits, words: &[i16]) -> bool
-    requires { ⌜ Bounded (l .sums) ⌝ }
-    ensures { λ r. ⌜ r ≡ noneOf (beyondControl (limitsSay l)) (now (words .entry)) ⌝ }
-{
-    let mut i: usize = 0;
-    while i < words.len() {
-        if beyond_control(l, words[i]) {
-            return false;
-        }
-        i += 1;
-    }
-    true
-}
-
-// The status and the open verdict go together.
-fn status_fits(l: Limits, series: &[i16], status: u16, open_verdict: u16) -> bool
-    requires { ⌜ Bounded (l .sums) ⌝ }
-    ensures { λ r. ⌜ r ≡ statusFits (limitsSay l) (now (series .entry)) status «open_verdict» ⌝ }
-{
-    if status == 0 {
-        return open_verdict == 0;
-    }
-    open_fits(l, series, status, open_verdict)
-}
-
-fn open_fits(l: Limits, series: &[i16], status: u16, open_verdict: u16) -> bool
-    requires { ⌜ Bounded (l .sums) ⌝ }
-    ensures { λ r. ⌜ r ≡ openFits (limitsSay l) (now (series .entry)) status «open_verdict» ⌝ }
-{
-    let is_status = (1 <= status) & (status <= 2);
-    let is_verdict = (1 <= open_verdict) & (open_verdict <= 4);
-    let same = open_verdict == verdict(l, series);
-    is_status & ((1 <= series.len()) & (is_verdict & same))
 }

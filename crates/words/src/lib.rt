@@ -2,13 +2,16 @@
 //
 // `word` forms a word alone. It declines, and this is the order: 1 a kind that is not 1..3, 5 a reading outside
 // 0..1,000,000,000, 6 a divisor of 0, 7 a word out of range. `from_reading` is the part that every reading goes through, with 5, 6 and
-// 7; `is_kind` and `in_range` are the kinds and the range of a kind's words, for whoever builds a chart.
+// 7, and `word_for` forms the word of a reading that comes to a chart. `is_kind`, `in_range` and `all_in_range` are the kinds and the range
+// of a kind's words, for whoever builds a chart.
 //
 // Tests are joined by `&` and `|`, which evaluate both sides: none can overflow, and the result is the definition's own expression.
 ghost use mathlib.Core.Path.{_≡_};
 ghost use mathlib.Core.Bool.{true};
 ghost use Prim.Native.Nat.{_+_, _-_, _^_, _≤_, _<_};
 ghost use Rattle.guide.specs.Kind.{isKind, inRange};
+ghost use Rattle.guide.specs.Building.{allInRange};
+ghost use Rattle.guide.specs.Machine.{wordFor};
 ghost use Rattle.guide.specs.Word.{isReading, areReadings, nearestNatural, fromReading, wordAlone};
 ghost use Rattle.guide.specs.Word as guide;
 ghost use Rattle.words.specs.Formed.{formedSays, signed, ReadingIs, IsQuotient};
@@ -48,6 +51,16 @@ pub fn is_kind(kind: u16) -> bool
     (1 <= kind) & (kind <= 3)
 }
 
+// The word of a reading that comes to a chart: 4 for a reading of another kind, then 5, 6, 7.
+pub fn word_for(chart_kind: u16, kind: u16, a: i64, b: i64, c: i64) -> Formed
+    ensures { λ r. ⌜ formedSays r ≡ wordFor «chart_kind» kind a b c ⌝ }
+{
+    if kind != chart_kind {
+        return Formed::Refused(4);
+    }
+    from_reading(kind, a, b, c)
+}
+
 // The kind is 1..3 for whoever asks the paper's question; any other is taken for 3.
 pub fn from_reading(kind: u16, a: i64, b: i64, c: i64) -> Formed
     ensures { λ r. ⌜ formedSays r ≡ fromReading kind a b c ⌝ }
@@ -74,6 +87,21 @@ pub fn in_range(kind: u16, w: i64) -> bool
         return (0 <= w) & (w <= WORD_MOST);
     }
     (WORD_LEAST <= w) & (w <= WORD_MOST)
+}
+
+// Every word is in the range of the kind.
+pub fn all_in_range(kind: u16, words: &[i16]) -> bool
+    ensures { λ r. ⌜ r ≡ allInRange kind (now (words .entry)) ⌝ }
+{
+    let mut i: usize = 0;
+    while i < words.len() {
+        let w = words[i];
+        if !in_range(kind, w as i64) {
+            return false;
+        }
+        i += 1;
+    }
+    true
 }
 
 // Kinds 1 and 2 ignore the third number, whatever it is.

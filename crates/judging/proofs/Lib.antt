@@ -1,0 +1,2 @@
+mod Judging
+mod Held

@@ -1,0 +1,80 @@
+-- `judging::verdict::sides_of` meets its contract. The loop's invariant, for above as for below: what the words before i showed, and what the
+-- words from i on show, together is what all words show.
+use mathlib.Core.Path.{_≡_, refl}
+use mathlib.Core.Bool.{_&&_}
+use Prim.Native.Nat.{_-_}
+use native.Mathlib.Omega.{arith}
+use borrow.Author.Needs.{needs, sfits-of}
+use denote.Ref.{now}
+use lib.ListN.{length, drop}
+use mir.Facts.{toZ-ofZ}
+use Rattle.guide.specs.AllOf.{allOf}
+use Rattle.guide.specs.Limits.{aboveMean, belowMean}
+use Rattle.limits.specs.Sums.{sumsSay}
+use Rattle.judging.proofs.Judging.{test-turn, test-end}
+use Rattle.judging.proofs.verdict.sides_of.Statement.{statement}
+use Rattle.judging.proofs.verdict.sides_of.Tie as tie
+
+abbrev Inv-loop : tie.InvT-loop
+Inv-loop l words above₀ below₀ i₀ above below i =
+    ((above && allOf (aboveMean (sumsSay (l .sums))) (drop i words)) ≡ allOf (aboveMean (sumsSay (l .sums))) words)
+    × ((below && allOf (belowMean (sumsSay (l .sums))) (drop i words)) ≡ allOf (belowMean (sumsSay (l .sums))) words)
+
+abbrev μ-loop : tie.MeasureT-loop
+μ-loop l words above₀ below₀ i₀ above below i = length words - i
+
+loop-holds : tie.Need-loop-holds Inv-loop μ-loop
+loop-holds c = (refl, refl)
+
+mul-side-of-mean : tie.Need-mul-side-of-mean Inv-loop μ-loop
+mul-side-of-mean c = search needs
+
+shared-slice-copy-out-side-of-mean : tie.Need-shared-slice-copy-out-side-of-mean Inv-loop μ-loop
+shared-slice-copy-out-side-of-mean c = search needs
+
+side-of-mean-requires : tie.Need-side-of-mean-requires Inv-loop μ-loop
+side-of-mean-requires c κs = c .before .before .before .pre
+
+add-i : tie.Need-add-i Inv-loop μ-loop
+add-i c = search needs
+
+loop-less : tie.Need-loop-less Inv-loop μ-loop
+loop-less c = omega arith
+
+loop-again : tie.Need-loop-again Inv-loop μ-loop
+loop-again c =
+    let called = c .before .before in
+    let l = called .before .before .before in
+    let words = now (l .before .args .words) in
+    let sums = sumsSay (l .before .args .l .sums) in
+    let inside = called .before .before .loop-test .taken in
+    let word = toZ-ofZ (sfits-of (called .before .side-of-mean-arg .given)) in
+    let is = called .side-of-mean .ensures in (
+      test-turn (aboveMean sums) words (l .loop .i) (l .loop .above) (l .loop .inv .0) inside word (is .above),
+      test-turn (belowMean sums) words (l .loop .i) (l .loop .below) (l .loop .inv .1) inside word (is .below),
+    )
+
+returns : tie.Need-returns Inv-loop μ-loop
+returns c =
+    let l = c .before .loop in
+    let words = now (c .before .before .args .words) in
+    let sums = sumsSay (c .before .before .args .l .sums) in
+    record {
+      above = test-end (aboveMean sums) words (l .i) (l .above) (l .inv .0) (c .loop-test .left);
+      below = test-end (belowMean sums) words (l .i) (l .below) (l .inv .1) (c .loop-test .left);
+    }
+
+pub sides-of-spec : {M : Type 1} → statement M
+sides-of-spec =
+    tie.close
+    (tie.spec
+    Inv-loop
+    μ-loop
+    loop-holds
+    mul-side-of-mean
+    shared-slice-copy-out-side-of-mean
+    side-of-mean-requires
+    add-i
+    loop-less
+    loop-again
+    returns)

@@ -1,0 +1,69 @@
+// What soundness asks of the words by the limits, and of the status and the open verdict: document 01, "Stored form".
+use crate::verdict::verdict;
+use limits::Limits;
+use limits::beyond_control;
+ghost use mathlib.Core.Path.{_≡_};
+ghost use Prim.Native.Nat.{_-_};
+ghost use lib.Dec.{eqb};
+ghost use Rattle.guide.specs.Choice.{choose};
+ghost use Rattle.guide.specs.AllOf.{noneOf};
+ghost use Rattle.guide.specs.Limits.{beyondControl};
+ghost use Rattle.guide.specs.Soundness.{limitsHold, openFits, statusFits};
+ghost use Rattle.limits.specs.Sums.{limitsSay, Bounded};
+
+// No base word is beyond a control limit, and no series word, save the last while status is not 0.
+pub fn limits_hold(l: Limits, base: &[i16], series: &[i16], status: u16) -> bool
+    requires { ⌜ Bounded (l .sums) ⌝ }
+    ensures { λ r. ⌜ r ≡ limitsHold (limitsSay l) (now (base .entry)) (now (series .entry)) status ⌝ }
+{
+    let k = held_count(series.len(), status);
+    none_beyond_control(l, base) & none_beyond_control(l, &series[..k])
+}
+
+// How many of the series' m words have to lie within.
+fn held_count(m: usize, status: u16) -> usize
+    ensures { λ r. ⌜ r ≡ choose (eqb status 0) m (m - 1) ⌝ }
+{
+    if status == 0 {
+        return m;
+    }
+    if m == 0 {
+        return 0;
+    }
+    m - 1
+}
+
+fn none_beyond_control(l: Limits, words: &[i16]) -> bool
+    requires { ⌜ Bounded (l .sums) ⌝ }
+    ensures { λ r. ⌜ r ≡ noneOf (beyondControl (limitsSay l)) (now (words .entry)) ⌝ }
+{
+    let mut i: usize = 0;
+    while i < words.len() {
+        if beyond_control(l, words[i]) {
+            return false;
+        }
+        i += 1;
+    }
+    true
+}
+
+// The status and the open verdict go together.
+pub fn status_fits(l: Limits, series: &[i16], status: u16, open_verdict: u16) -> bool
+    requires { ⌜ Bounded (l .sums) ⌝ }
+    ensures { λ r. ⌜ r ≡ statusFits (limitsSay l) (now (series .entry)) status «open_verdict» ⌝ }
+{
+    if status == 0 {
+        return open_verdict == 0;
+    }
+    open_fits(l, series, status, open_verdict)
+}
+
+fn open_fits(l: Limits, series: &[i16], status: u16, open_verdict: u16) -> bool
+    requires { ⌜ Bounded (l .sums) ⌝ }
+    ensures { λ r. ⌜ r ≡ openFits (limitsSay l) (now (series .entry)) status «open_verdict» ⌝ }
+{
+    let is_status = (1 <= status) & (status <= 2);
+    let is_verdict = (1 <= open_verdict) & (open_verdict <= 4);
+    let same = open_verdict == verdict(l, series);
+    is_status & ((1 <= series.len()) & (is_verdict & same))
+}
