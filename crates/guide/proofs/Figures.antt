@@ -13,7 +13,7 @@ use Rattle.guide.specs.LastWords.{lastWords, butLast, lastWord, oneBefor
 use Rattle.guide.specs.State.{fresh, limitsFor, addWord, replaceLast, setStatus}
 use Rattle.guide.specs.Building.{isBuildCount, allInRange, buildRefusal, building}
 use Rattle.guide.specs.Verdict.{eachNext, isRun, rising, falling, runAbove, runBelow, controlTest, warningTest, trendTest}
-use Rattle.guide.specs.Verdict.{sideTest, verdict, statusFor}
+use Rattle.guide.specs.Verdict.{sideTest, firstVerdict, verdict, statusFor}
 use Rattle.guide.specs.Reanalysis.{turnsBack, passesTrend, passesVerdict, passes}
 use Rattle.guide.specs.Machine.{postRefusal, reanalysisRefusal, wordFor, posting, afterReanalysis, reanalysing, step, answers}
 use Rattle.guide.specs.Figures.{Row, table}
@@ -23,6 +23,6 @@ unfolding table isKind ignoresThird wordLeast inRange hasLower judgesSide isRead
     roundedQuotient fromReading wordAlone sumOf sumOfSquares sumsOf vOf scaledDeviation exceeds within aboveMean belowMean nearMean
     above below limitsOf beyondUpper beyondLower beyond beyondControl beyondWarning beyondUpperWarning beyondLowerWarning without afterRound
     rejectionWithin rejection lastWords butLast lastWord oneBeforeLast fresh limitsFor addWord replaceLast setStatus isBuildCount allInRange
-    buildRefusal building allOf eachNext isRun rising falling runAbove runBelow controlTest warningTest trendTest sideTest verdict statusFor
+    buildRefusal building allOf eachNext isRun rising falling runAbove runBelow controlTest warningTest trendTest sideTest firstVerdict verdict statusFor
     turnsBack passesTrend passesVerdict passes postRefusal reanalysisRefusal wordFor posting afterReanalysis reanalysing step answers
 figures-hold = refl

@@ -1,31 +1,41 @@
 -- Laws of the verdict: it is at most 4; where it is 0 the last word is not beyond a control limit; and the status that it sets.
 use mathlib.Core.Path.{_≡_, refl}
-use mathlib.Core.Bool.{false, true}
+use mathlib.Core.Bool.{Bool, false, true, _&&_}
 use mathlib.Core.List.{List, [], _∷_, _++_}
 use Prim.Native.Nat.{ℕ, _≤_}
 use native.Mathlib.Omega.{arith}
 use lib.ListN.{length}
 use lib.Dec.{leb, eqb}
 use lib.IntN.{ℤ}
-use borrow.Author.Tests.{le-leb, ne-eqb}
+use borrow.Author.Tests.{leb-true, le-leb, ne-eqb}
 use Rattle.guide.specs.Limits.{Limits, beyondControl}
-use Rattle.guide.specs.Verdict.{controlTest, warningTest, trendTest, sideTest, verdict, statusFor}
-use Rattle.guide.proofs.Booleans.{by-test}
+use Rattle.guide.specs.Verdict.{controlTest, firstVerdict, verdict, statusFor}
+use Rattle.guide.proofs.Booleans.{both, by-test}
+use Rattle.guide.proofs.Choice.{choose-ind}
 use Rattle.guide.proofs.LastWords.{length-added, last-word-added}
+
+-- every test's verdict is at most m, so the first's is
+verdictsWithin : ℕ → List (Bool × ℕ) → Bool
+verdictsWithin m [] = true
+verdictsWithin m (test ∷ tests) = leb (test .1) m && verdictsWithin m tests
+
+first-within : (m : ℕ) (tests : List (Bool × ℕ)) → verdictsWithin m tests ≡ true → firstVerdict tests ≤ m
+unfolding firstVerdict verdictsWithin
+first-within m [] h = omega arith
+first-within m (test ∷ tests) h =
+    let parts = both (leb (test .1) m) (verdictsWithin m tests) h in
+    choose-ind (λ v. v ≤ m) (test .0) (test .1) (firstVerdict tests)
+    (λ _. leb-true (test .1) m (parts .0)) (λ _. first-within m tests (parts .1))
 
 -- the greatest verdict is 4
 pub verdict-at-most-four : (limits : Limits) (series : List ℤ) → verdict limits series ≤ 4
-unfolding verdict
-verdict-at-most-four limits series =
-    by-test (controlTest limits series) (λ t. rw t (omega arith))
-    (λ t. rw t (by-test (warningTest limits series) (λ u. rw u (omega arith))
-    (λ u. rw u (by-test (trendTest series) (λ v. rw v (omega arith))
-    (λ v. rw v (by-test (sideTest limits series) (λ x. rw x (omega arith)) (λ x. rw x (omega arith))))))))
+unfolding verdict verdictsWithin
+verdict-at-most-four limits series = first-within 4 _ refl
 
 -- verdict 0: the control test, the first of the four, failed of the word that was added
 pub no-verdict-within : (limits : Limits) (series : List ℤ) (w : ℤ)
     → verdict limits (series ++ (w ∷ [])) ≡ 0 → beyondControl limits w ≡ false
-unfolding verdict controlTest
+unfolding verdict firstVerdict controlTest
 no-verdict-within limits series w h =
     let words = series ++ (w ∷ []) in
     by-test (controlTest limits words) (λ t. absurd (omega (arith, rw t at h)))

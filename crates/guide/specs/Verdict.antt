@@ -70,15 +70,21 @@ sideTest limits series = judgesSide (limits .kind) && (runAbove limits series ||
 
 -- ---- the verdict
 
+-- of tests in order, each with its verdict, the verdict of the first that holds; 0 where none does
+unfoldable pub firstVerdict : List (Bool × ℕ) → ℕ
+firstVerdict [] = 0
+firstVerdict (test ∷ tests) = choose (test .0) (test .1) (firstVerdict tests)
+
 -- "the lowest that applies", and 0 for "none of these". "Judging uses chart kind, base and series only": the limits hold what it takes of
 -- kind and base
 unfoldable pub verdict : Limits → List ℤ → ℕ
 verdict limits series =
-    choose (controlTest limits series) 1
-    (choose (warningTest limits series) 2
-    (choose (trendTest series) 3
-    (choose (sideTest limits series) 4
-    0)))
+    firstVerdict
+    ((controlTest limits series, 1)
+    ∷ (warningTest limits series, 2)
+    ∷ (trendTest series, 3)
+    ∷ (sideTest limits series, 4)
+    ∷ [])
 
 -- "Verdicts 1..3 set status 1, verdict 4 sets status 2." A word with verdict 0 leaves the chart free
 unfoldable pub statusFor : ℕ → ℕ

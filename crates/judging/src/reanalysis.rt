@@ -15,10 +15,7 @@ pub fn passes(l: Limits, open_verdict: u16, series: &[i16], w: i16) -> bool
     requires { ⌜ Bounded (l .sums) ⌝ }
     ensures { λ r. ⌜ r ≡ guide.passes (limitsSay l) «open_verdict» (now (series .entry)) w ⌝ }
 {
-    if beyond_control(l, w) {
-        return false;
-    }
-    passes_verdict(l, open_verdict, series, w)
+    !beyond_control(l, w) & passes_verdict(l, open_verdict, series, w)
 }
 
 // What the open verdict asks beside the control limits.

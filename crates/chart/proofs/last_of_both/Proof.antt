@@ -1,7 +1,7 @@
 -- `chart::last_of_both` meets its contract. The loop's invariant: the first of the last 15 words stand in their places.
 use mathlib.Core.Path.{_≡_, refl, sym, ap, _∙_}
 use mathlib.Core.List.{List, _++_}
-use Prim.Native.Nat.{_+_, _-_, _≤_}
+use Prim.Native.Nat.{ℕ, _+_, _-_, _≤_}
 use native.Mathlib.Omega.{arith}
 use borrow.Author.Needs.{needs, sfits-of}
 use denote.Ref.{now}
@@ -70,9 +70,11 @@ taken : (c : tie.After-word-at Inv-loop μ-loop) → let l = c .before .before i
     c .word-at .result ≡ getD (last (l .before)) (l .loop .i) (pos 0)
 taken c =
     let l = c .before .before in
-    let place : length (now (l .before .args .base)) + length (now (l .before .args .series)) - baseWanted ≡ length (both (l .before)) - baseWanted =
-    omega (arith, all-words (l .before)) in
-    c .word-at .ensures ∙ rw place (sym (last-words-at baseWanted (both (l .before)) (l .loop .i)))
+    let i = l .loop .i in
+    let words = both (l .before) in
+    let number = length (now (l .before .args .base)) + length (now (l .before .args .series)) in
+    let place : number - baseWanted + i ≡ length words - baseWanted + i = omega (arith, all-words (l .before)) in
+    c .word-at .ensures ∙ ap (λ (k : ℕ). getD words k (pos 0)) place ∙ sym (last-words-at baseWanted words i)
 
 loop-again : tie.Need-loop-again Inv-loop μ-loop
 loop-again c =

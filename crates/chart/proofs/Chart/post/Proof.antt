@@ -9,11 +9,13 @@ use mir.Syntax.{w16}
 use mir.Val.{SFits}
 use mir.Facts.{toZ-ofZ}
 use Rattle.guide.specs.Sizes.{seriesMost}
+use Rattle.guide.specs.State.{limitsFor, addWord}
+use Rattle.guide.specs.Verdict.{verdict}
 use Rattle.guide.specs.Word as word
 use Rattle.guide.specs.Machine.{Call, post, wordFor}
 use Rattle.guide.proofs.Machine.{can-post}
 use Rattle.words.specs.Formed.{formedSays}
-use Rattle.chart.specs.Chart.{stateOf}
+use Rattle.chart.specs.Chart.{stateOf, chartOf}
 use Rattle.chart.specs.Soundness.{soundChart}
 use Rattle.chart.specs.Calls.{postSays}
 use Rattle.chart.proofs.State.{series-count}
@@ -100,8 +102,9 @@ returns-2 c =
     let a = start .args in
     let word = toZ-ofZ (word-fits told) in
     let k = accepted (told .before .before .before .before) in
-    let v : _ ≡ _ = rw word at (judged .verdict-on .ensures) in
-    let chart : _ ≡ _ = rw word at (added .add-word .ensures) in
+    let s = stateOf (a .self) in
+    let v = judged .verdict-on .ensures ∙ ap (λ (x : ℤ). verdict (limitsFor s) (addWord s x .series)) word in
+    let chart = added .add-word .ensures ∙ ap (λ (x : ℤ). chartOf (addWord s x)) word in
     rw word
     (posted (a .self) (a .kind) (a .a) (a .b) (a .c) (word-of told) (word-formed told) k (judged .verdict-on .result) (c .before .status-for .result)
     (added .add-word .result) (c .set-status .result) v chart (c .before .status-for .ensures) (c .set-status .ensures))

@@ -8,11 +8,12 @@ use lib.IntN.{ℤ}
 use mir.Syntax.{w16}
 use mir.Val.{SFits}
 use mir.Facts.{toZ-ofZ}
+use Rattle.guide.specs.State.{replaceLast}
 use Rattle.guide.specs.Word as word
 use Rattle.guide.specs.Machine.{Call, reanalysis, reanalysisRefusal, wordFor}
 use Rattle.guide.proofs.Machine.{can-reanalyse}
 use Rattle.words.specs.Formed.{formedSays}
-use Rattle.chart.specs.Chart.{stateOf}
+use Rattle.chart.specs.Chart.{stateOf, chartOf}
 use Rattle.chart.specs.Soundness.{soundChart}
 use Rattle.chart.specs.Calls.{refusalOn, reanalysisSays}
 use Rattle.chart.proofs.State.{some-series}
@@ -96,7 +97,7 @@ returns-2 c =
     let word = toZ-ofZ (word-fits told) in
     let k = accepted (told .before .before .before .before) in
     let passes : _ ≡ _ = rw word at (sym (judged .passes-for-last .ensures) ∙ replaced .before .if2 .taken) in
-    let chart : _ ≡ _ = rw word at (replaced .replace-last .ensures) in
+    let chart = replaced .replace-last .ensures ∙ ap (λ (x : ℤ). chartOf (replaceLast (stateOf (a .self)) x)) word in
     rw word
     (passed (a .self) (a .kind) (a .a) (a .b) (a .c) (word-of told) (word-formed told) k (replaced .replace-last .result)
     (c .set-status .result) passes chart (c .set-status .ensures))

@@ -1,15 +1,18 @@
 -- `chart::Chart::verdict_on` meets its contract.
 use mathlib.Core.Path.{_≡_, sym, ap, _∙_}
-use mathlib.Core.List.{[], _∷_, _++_}
-use Prim.Native.Nat.{_+_, _≤_}
+use mathlib.Core.List.{List}
+use Prim.Native.Nat.{_+_, _<_, _≤_}
 use native.Mathlib.Omega.{arith}
 use native.Mathlib.Numerals.{add-one}
 use borrow.Author.Needs.{needs}
 use lib.ListN.{length, take, set, length-set}
 use lib.Seq.{take-suc-set, length-take-le}
 use lib.IntN.{ℤ}
+use mir.Syntax.{w16}
+use mir.Val.{toZ, ofZ}
 use mir.Facts.{toZ-ofZ}
-use Rattle.guide.specs.State.{addWord}
+use Rattle.guide.specs.State.{limitsFor, addWord}
+use Rattle.guide.specs.Verdict.{verdict}
 use Rattle.chart.specs.Chart.{stateOf}
 use Rattle.chart.proofs.State.{Given, given}
 use Rattle.chart.proofs.Chart.verdict_on.Statement.{statement}
@@ -30,37 +33,41 @@ array-set-from-series c = search needs
 add-after : tie.Need-add-after
 add-after c = search needs
 
--- there is a place for the word
-room : (c : tie.Start) (w : ℤ) → let self = c .args .self in self .«series_len» + 1 ≤ length (set (self .series) (self .«series_len») w)
-room c w =
+-- the series as it is judged, in the places of a series
+abbrev places : tie.Start → List ℤ
+places c = let self = c .args .self in set (self .series) (self .«series_len») (toZ w16 (ofZ w16 (c .args .w)))
+
+room : (c : tie.Start) → c .args .self .«series_len» + 1 ≤ length (places c)
+room c =
     let self = c .args .self in
-    omega (arith, length-set (self .series) (self .«series_len») w, sound-self c .within .series-places, c .pre .1)
+    let same = length-set (self .series) (self .«series_len») (toZ w16 (ofZ w16 (c .args .w))) in
+    omega (arith, same, sound-self c .within .series-places, c .pre .1)
 
 array-share-prefix-series : tie.Need-array-share-prefix-series
-array-share-prefix-series c = let start = c .before .before in room start _
+array-share-prefix-series c = omega (arith, room (c .before .before))
 
 slice-aggregate-verdict : tie.Need-slice-aggregate-verdict
 slice-aggregate-verdict c =
     let start = c .before .before .before in
-    let self = start .args .self in
-    sym (length-take-le (self .«series_len» + 1) _ (room start _))
+    sym (length-take-le _ (places start) (omega (arith, room start)))
 
 verdict-requires : tie.Need-verdict-requires
 verdict-requires c κs = c .before .before .limits .ensures .bounded
 
--- what is judged is the series with the word added
-judged : (c : tie.Start) (w : ℤ) → let self = c .args .self in let n = self .«series_len» in
-    take (n + 1) (set (self .series) n w) ≡ addWord (stateOf self) w .series
+-- as many words as the chart says and one more are the series with the word added
+judged : (c : tie.Start) → let self = c .args .self in take (self .«series_len» + 1) (places c) ≡ addWord (stateOf self) (c .args .w) .series
 unfolding addWord stateOf
-judged c w =
+judged c =
     let self = c .args .self in
-    rw add-one (take-suc-set (self .series) (self .«series_len») w (omega (arith, sound-self c .within .series-places, c .pre .1)))
+    let i = self .«series_len» in
+    let some : i < length (self .series) = omega (arith, sound-self c .within .series-places, c .pre .1) in
+    rw (toZ-ofZ (c .fits .w), add-one) (take-suc-set (self .series) i (c .args .w) some)
 
 returns : tie.Need-returns
 returns c =
     let limits = c .before .before .before in
     let start = limits .before in
-    rw (limits .limits .ensures .same, toZ-ofZ (start .fits .w), judged start (start .args .w)) at (c .verdict .ensures)
+    rw (limits .limits .ensures .same) at (c .verdict .ensures) ∙ ap (verdict (limitsFor (stateOf (start .args .self)))) (judged start)
 
 pub verdict-on-spec : {M : Type 1} → statement M
 verdict-on-spec =

@@ -7,7 +7,7 @@ use denote.Ref.{now}
 use lib.IntN.{ℤ}
 use Rattle.guide.specs.Choice.{choose}
 use Rattle.guide.specs.Limits.{Limits}
-use Rattle.guide.specs.Verdict.{verdict, controlTest, warningTest, trendTest}
+use Rattle.guide.specs.Verdict.{firstVerdict, verdict, controlTest, warningTest, trendTest}
 use Rattle.limits.specs.Sums.{limitsSay}
 use Rattle.judging.proofs.verdict.verdict.Statement.{statement}
 use Rattle.judging.proofs.verdict.verdict.Tie as tie
@@ -29,7 +29,7 @@ trend-fails c = sym (c .before .trend-test .ensures) ∙ c .if3 .left
 -- where the first three failed, the fourth decides
 side-decides : (c : tie.After-side-test)
     → given verdict (c .before .before .before .before .before .before .before) ≡ choose (c .side-test .result) 4 0
-unfolding verdict
+unfolding verdict firstVerdict
 side-decides c =
     let third = c .before in
     let second = third .before .before in
@@ -39,21 +39,21 @@ control-test-requires : tie.Need-control-test-requires
 control-test-requires c κs = search needs
 
 returns : tie.Need-returns
-unfolding verdict
+unfolding verdict firstVerdict
 returns c = rw (sym (c .before .control-test .ensures) ∙ c .if1 .taken)
 
 warning-test-requires : tie.Need-warning-test-requires
 warning-test-requires c κs = search needs
 
 returns-2 : tie.Need-returns-2
-unfolding verdict
+unfolding verdict firstVerdict
 returns-2 c = rw (control-fails (c .before .before), sym (c .before .warning-test .ensures) ∙ c .if2 .taken)
 
 trend-test-requires : tie.Need-trend-test-requires
 trend-test-requires c κs = search needs
 
 returns-3 : tie.Need-returns-3
-unfolding verdict
+unfolding verdict firstVerdict
 returns-3 c =
     let second = c .before .before in
     rw (control-fails (second .before .before), warning-fails second, sym (c .before .trend-test .ensures) ∙ c .if3 .taken)
