@@ -15,7 +15,7 @@ use Rattle.guide.specs.State.{State, fresh, limitsFor, addWord, replaceLast, se
 use Rattle.guide.specs.Verdict.{verdict, statusFor}
 use Rattle.guide.specs.Reanalysis.{passes}
 use Rattle.guide.specs.Machine.{Call, post, reanalysis, correction, renewal, Answer, judged, reanalysed, corrected, renewed, refused}
-use Rattle.guide.specs.Machine.{Next, declined, refusalFor, wordFor, posting, afterReanalysis, reanalysing, correcting, renewing, performed}
+use Rattle.guide.specs.Machine.{Next, declined, refusalFor, wordFor, ifFormed, posting, afterReanalysis, reanalysing, correcting, renewing, performed}
 use Rattle.guide.specs.Machine.{step}
 use Rattle.guide.proofs.Booleans.{by-test}
 use Rattle.chart.specs.Pad.{pad}
@@ -23,9 +23,9 @@ use Rattle.chart.specs.declared.Chart.{Chart}
 use Rattle.chart.specs.declared.Settled.{Settled}
 use Rattle.chart.specs.Chart.{stateOf, chartOf, withStatus, IsSettled}
 use Rattle.chart.specs.Soundness.{soundChart}
-use Rattle.chart.specs.Calls.{nextChart, answerTo, Gives, refusalOn}
+use Rattle.chart.specs.Calls.{nextChart, answerTo, Gives, refusalOn, wordUnless}
 use Rattle.chart.proofs.Places.{take-pad}
-use Rattle.chart.proofs.State.{Given, given, chart-of-state}
+use Rattle.chart.proofs.State.{Within, Given, given, chart-of-state}
 
 -- ---- the number that a call is declined for
 
@@ -45,9 +45,25 @@ module _ (c : Chart) (n k rest : ℕ) (free : Bool) (e : n ≡ refusalOn c (requ
   then-by true false f z = absurd (omega arith)
   then-by false u f z = absurd (omega arith)
 
-  pub status-allows : n ≡ 0 → (soundChart c ≡ true) × (rest ≡ refusalOn c (require free (suc k) rest))
+  -- .. and the chart's lengths lie within its arrays
+  pub status-allows : length (c .base) ≡ baseMost → length (c .series) ≡ seriesMost → n ≡ 0
+      → Within c × (rest ≡ refusalOn c (require free (suc k) rest))
   unfolding refusalOn
-  status-allows z = then-by (soundChart c) free e z
+  status-allows base series z =
+      let parts = then-by (soundChart c) free e z in
+      (given c base series (parts .0) .within, parts .1)
+
+-- a number that is not 0 comes before the reading; 0 leaves it to the reading
+pub number-first : (n chartKind kind : ℕ) (a b c : ℤ) → (n ≡ 0 → ⊥) → word.refused n ≡ wordUnless n chartKind kind a b c
+unfolding wordUnless
+number-first zero chartKind kind a b c ne = absurd (ne refl)
+number-first (suc n) chartKind kind a b c ne = refl
+
+pub reading-then : (n chartKind kind : ℕ) (a b c : ℤ) → n ≡ 0 → (f : word.Formed) → f ≡ wordFor chartKind kind a b c
+    → f ≡ wordUnless n chartKind kind a b c
+unfolding wordUnless
+reading-then zero chartKind kind a b c z f e = e
+reading-then (suc n) chartKind kind a b c z f e = absurd (omega arith)
 
 -- ---- one step of the machine
 
@@ -119,10 +135,34 @@ status-set s c status v e = ap (λ (x : Chart). withStatus x status v) e
 
 -- ---- the four calls
 
-module _ (c : Chart) (call : Call) (k : Accepted c call) where
-  -- what the call brings is declined
-  pub reading-declined : (n : ℕ) → performed (stateOf c) call ≡ declined (stateOf c) n → Gives c call c (refused n)
-  reading-declined n e = performed-gives c call k (declined (stateOf c) n) e c (refused n) (sym (chart-of-state c (k .sound))) refl
+-- the number of a refusal; 0 of a word
+abbrev refusalOf : word.Formed → ℕ
+refusalOf (word.formed w) = 0
+refusalOf (word.refused n) = n
+
+-- a call that brings a reading, of which f is what it gives
+module _ (c : Chart) (call : Call) (kind : ℕ) (a b x : ℤ) (next : ℤ → Next) (base : length (c .base) ≡ baseMost)
+    (series : length (c .series) ≡ seriesMost)
+    (p : performed (stateOf c) call ≡ ifFormed (stateOf c) (wordFor (stateOf c .kind) kind a b x) next) where
+  -- it is declined by a number
+  pub reading-declined : (n m : ℕ) → n ≡ refusalOn c (refusalFor (stateOf c) call)
+      → wordUnless n (stateOf c .kind) kind a b x ≡ word.refused m → Gives c call c (refused m)
+  unfolding wordUnless
+  reading-declined zero m e h =
+      let k = call-accepted c call 0 base series e refl in
+      let same = sym (chart-of-state c (k .sound)) in
+      performed-gives c call k (declined (stateOf c) m) (p ∙ ap (λ (f : word.Formed). ifFormed (stateOf c) f next) h) c (refused m) same refl
+  reading-declined (suc n) m e h =
+      let number : suc n ≡ m = ap refusalOf h in
+      rw (← number) (call-declined c call (suc n) base series e (λ z. absurd (omega arith)))
+
+  -- it gives a word, so the call is not declined before
+  pub reading-taken : (n : ℕ) (w : ℤ) → n ≡ refusalOn c (refusalFor (stateOf c) call)
+      → wordUnless n (stateOf c .kind) kind a b x ≡ word.formed w
+      → Accepted c call × (wordFor (stateOf c .kind) kind a b x ≡ word.formed w)
+  unfolding wordUnless
+  reading-taken zero w e h = (call-accepted c call 0 base series e refl, h)
+  reading-taken (suc n) w e h = let number : suc n ≡ 0 = ap refusalOf h in absurd (omega arith)
 
 module _ (c : Chart) (kind : ℕ) (a b x w : ℤ) (formed : wordFor (stateOf c .kind) kind a b x ≡ word.formed w) where
   -- the word is added with its verdict

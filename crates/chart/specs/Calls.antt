@@ -2,9 +2,11 @@
 use mathlib.Core.Path.{_≡_}
 use mathlib.Core.Bool.{true, false}
 use mathlib.Core.List.{List, [], _∷_}
-use Prim.Native.Nat.{ℕ}
+use Prim.Native.Nat.{ℕ, zero, suc}
+use lib.IntN.{ℤ}
 use Rattle.guide.specs.Choice.{require, choose}
-use Rattle.guide.specs.Machine.{Call, Answer, judged, reanalysed, corrected, renewed, refused, step}
+use Rattle.guide.specs.Word as word
+use Rattle.guide.specs.Machine.{Call, Answer, judged, reanalysed, corrected, renewed, refused, wordFor, step}
 use Rattle.chart.specs.declared.Chart.{Chart}
 use Rattle.chart.specs.declared.PostAnswer.{PostAnswer}
 use Rattle.chart.specs.declared.PostAnswer.the-variants as post
@@ -33,6 +35,11 @@ pub record Gives (c : Chart) (call : Call) (next : Chart) (answer : Answer) : Ty
 -- 14 first, and then the number that the machine declines the call for before it looks at what the call brings, or 0
 unfoldable pub refusalOn : Chart → ℕ → ℕ
 refusalOn c number = require (soundChart c) 14 number
+
+-- a number that is not 0 declines the call; where it is 0, the reading that the call brings decides
+unfoldable pub wordUnless : ℕ → ℕ → ℕ → ℤ → ℤ → ℤ → word.Formed
+wordUnless zero chartKind kind a b c = wordFor chartKind kind a b c
+wordUnless (suc n) chartKind kind a b c = word.refused (suc n)
 
 -- ---- what the cases of each call's answer say
 

@@ -33,10 +33,11 @@ ghost use Rattle.guide.specs.Building.{isBuildCount, buildRefusal};
 ghost use Rattle.guide.specs.Verdict as verdicts;
 ghost use Rattle.guide.specs.Reanalysis as reanalyses;
 ghost use Rattle.guide.specs.Machine as machine;
+ghost use Rattle.words.specs.Formed.{formedSays};
 ghost use Rattle.chart.specs.Pad.{pad};
 ghost use Rattle.chart.specs.Chart.{stateOf, chartOf, withStatus, zeroChart, freshChart, LimitsFor, IsSettled, Builds};
 ghost use Rattle.chart.specs.Soundness.{soundChart};
-ghost use Rattle.chart.specs.Calls.{Gives, postSays, reanalysisSays, correctionSays, renewalSays, refusalOn};
+ghost use Rattle.chart.specs.Calls.{Gives, postSays, reanalysisSays, correctionSays, renewalSays, refusalOn, wordUnless};
 
 pub struct Chart {
     pub kind: u16,
@@ -148,14 +149,7 @@ impl Chart {
     pub fn post(mut self, kind: u16, a: i64, b: i64, c: i64) -> Posted
         ensures { λ r. ⌜ Gives self (machine.post kind a b c) (r .chart) (postSays (r .answer)) ⌝ }
     {
-        let number = self.post_refusal();
-        if number != 0 {
-            return Posted {
-                chart: self,
-                answer: PostAnswer::Refused(number),
-            };
-        }
-        let formed = word_for(self.kind, kind, a, b, c);
+        let formed = word_unless(self.post_refusal(), self.kind, kind, a, b, c);
         match formed {
             Formed::Word(w) => {
                 let v = self.verdict_on(w);
@@ -180,14 +174,7 @@ impl Chart {
     pub fn reanalyse(mut self, kind: u16, a: i64, b: i64, c: i64) -> Reanalysed
         ensures { λ r. ⌜ Gives self (machine.reanalysis kind a b c) (r .chart) (reanalysisSays (r .answer)) ⌝ }
     {
-        let number = self.status_refusal(1, 10);
-        if number != 0 {
-            return Reanalysed {
-                chart: self,
-                answer: ReanalysisAnswer::Refused(number),
-            };
-        }
-        let formed = word_for(self.kind, kind, a, b, c);
+        let formed = word_unless(self.status_refusal(1, 10), self.kind, kind, a, b, c);
         match formed {
             Formed::Word(w) => {
                 if self.passes_for_last(w) {
@@ -433,6 +420,17 @@ fn word_at(base: &[i16], series: &[i16], i: usize) -> i16
     }
     let j = i - n;
     series[j]
+}
+
+// The word of a reading that comes to a chart, or a refusal: by the number that the call is declined for before its reading is looked at,
+// unless that is 0, and then by 4, 5, 6, 7.
+fn word_unless(number: u16, chart_kind: u16, kind: u16, a: i64, b: i64, c: i64) -> Formed
+    ensures { λ r. ⌜ formedSays r ≡ wordUnless number «chart_kind» kind a b c ⌝ }
+{
+    if number != 0 {
+        return Formed::Refused(number);
+    }
+    word_for(chart_kind, kind, a, b, c)
 }
 
 // The fresh chart of the base that rejection leaves of the first n words.

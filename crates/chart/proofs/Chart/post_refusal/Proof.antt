@@ -1,6 +1,5 @@
 -- `chart::Chart::post_refusal` meets its contract.
-use mathlib.Core.Path.{_≡_, _∙_}
-use mathlib.Core.Bool.{true}
+use mathlib.Core.Path.{_≡_}
 use Prim.Native.Nat.{ℕ, _≤_}
 use native.Mathlib.Omega.{arith}
 use borrow.Author.Needs.{needs}
@@ -11,9 +10,8 @@ use Rattle.guide.specs.Choice.{require}
 use Rattle.guide.specs.Sizes.{seriesMost}
 use Rattle.guide.specs.Machine.{postRefusal}
 use Rattle.chart.specs.Chart.{stateOf}
-use Rattle.chart.specs.Soundness.{soundChart}
 use Rattle.chart.specs.Calls.{refusalOn}
-use Rattle.chart.proofs.State.{Within, given, series-count}
+use Rattle.chart.proofs.State.{Within, series-count}
 use Rattle.chart.proofs.Calls.{status-declines, status-allows}
 use Rattle.chart.proofs.Chart.post_refusal.Statement.{statement}
 use Rattle.chart.proofs.Chart.post_refusal.Tie as tie
@@ -33,23 +31,20 @@ returns c =
     let number = c .before .status-refusal in
     status-declines self (number .result) 7 (rest start) (eqb (self .status) 0) (number .ensures) (c .if1 .taken)
 
--- the chart is sound, and the rest decides
+-- the rest decides
 allowed : (c : tie.Else1) → let self = c .before .before .args .self in
-    (soundChart self ≡ true) × (rest (c .before .before) ≡ refusalOn self (postRefusal (stateOf self)))
+    Within self × (rest (c .before .before) ≡ refusalOn self (postRefusal (stateOf self)))
 unfolding postRefusal stateOf
 allowed c =
     let start = c .before .before in
     let self = start .args .self in
     let number = c .before .status-refusal in
-    status-allows self (number .result) 7 (rest start) (eqb (self .status) 0) (number .ensures) (c .if1 .left)
-
-within : (c : tie.Else1) → Within (c .before .before .args .self)
-within c = given (c .before .before .args .self) (search needs) (search needs) (allowed c .0) .within
+    status-allows self (number .result) 7 (rest start) (eqb (self .status) 0) (number .ensures) (search needs) (search needs) (c .if1 .left)
 
 -- the series has as many words as the chart says
 count : (c : tie.Else1) → let self = c .before .before .args .self in length (stateOf self .series) ≡ self .«series_len»
 unfolding stateOf
-count c = series-count (c .before .before .args .self) (within c)
+count c = series-count (c .before .before .args .self) (allowed c .0)
 
 returns-2 : tie.Need-returns-2
 returns-2 c =

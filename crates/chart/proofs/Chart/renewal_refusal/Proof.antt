@@ -1,6 +1,5 @@
 -- `chart::Chart::renewal_refusal` meets its contract.
-use mathlib.Core.Path.{_≡_, _∙_}
-use mathlib.Core.Bool.{true}
+use mathlib.Core.Path.{_≡_}
 use Prim.Native.Nat.{ℕ, _+_}
 use native.Mathlib.Omega.{arith}
 use borrow.Author.Needs.{needs}
@@ -11,9 +10,8 @@ use Rattle.guide.specs.Choice.{require}
 use Rattle.guide.specs.Sizes.{baseWanted}
 use Rattle.guide.specs.Machine.{renewalRefusal}
 use Rattle.chart.specs.Chart.{stateOf}
-use Rattle.chart.specs.Soundness.{soundChart}
 use Rattle.chart.specs.Calls.{refusalOn}
-use Rattle.chart.proofs.State.{Within, given, base-count, series-count}
+use Rattle.chart.proofs.State.{Within, base-count, series-count}
 use Rattle.chart.proofs.Calls.{status-declines, status-allows}
 use Rattle.chart.proofs.Chart.renewal_refusal.Statement.{statement}
 use Rattle.chart.proofs.Chart.renewal_refusal.Tie as tie
@@ -33,18 +31,15 @@ returns c =
     let number = c .before .status-refusal in
     status-declines self (number .result) 7 (rest start) (eqb (self .status) 0) (number .ensures) (c .if1 .taken)
 
--- the chart is sound, and the rest decides
+-- the rest decides
 allowed : (c : tie.Else1) → let self = c .before .before .args .self in
-    (soundChart self ≡ true) × (rest (c .before .before) ≡ refusalOn self (renewalRefusal (stateOf self)))
+    Within self × (rest (c .before .before) ≡ refusalOn self (renewalRefusal (stateOf self)))
 unfolding renewalRefusal stateOf
 allowed c =
     let start = c .before .before in
     let self = start .args .self in
     let number = c .before .status-refusal in
-    status-allows self (number .result) 7 (rest start) (eqb (self .status) 0) (number .ensures) (c .if1 .left)
-
-within : (c : tie.Else1) → Within (c .before .before .args .self)
-within c = given (c .before .before .args .self) (search needs) (search needs) (allowed c .0) .within
+    status-allows self (number .result) 7 (rest start) (eqb (self .status) 0) (number .ensures) (search needs) (search needs) (c .if1 .left)
 
 -- base and series have as many words as the chart says
 abbrev words : tie.Start → ℕ
@@ -54,10 +49,10 @@ count : (c : tie.Else1) → let self = c .before .before .args .self in words (c
 unfolding stateOf
 count c =
     let self = c .before .before .args .self in
-    omega (arith, base-count self (within c), series-count self (within c))
+    omega (arith, base-count self (allowed c .0), series-count self (allowed c .0))
 
 add-if2 : tie.Need-add-if2
-add-if2 c = omega (arith, within (c .before) .base-few, within (c .before) .series-few)
+add-if2 c = omega (arith, allowed (c .before) .0 .base-few, allowed (c .before) .0 .series-few)
 
 returns-2 : tie.Need-returns-2
 returns-2 c =
