@@ -1,8 +1,8 @@
--- `course::show_number` meets its contract.
+-- `course::show::show_number` meets its contract.
 use borrow.Author.Needs.{needs}
 use Rattle.guide.proofs.Held.{cast-fits}
-use Rattle.course.proofs.show_number.Statement.{statement}
-use Rattle.course.proofs.show_number.Tie as tie
+use Rattle.course.proofs.show.show_number.Statement.{statement}
+use Rattle.course.proofs.show.show_number.Tie as tie
 
 slice-aggregate-write-all : tie.Need-slice-aggregate-write-all
 slice-aggregate-write-all c = search needs

@@ -1,12 +1,12 @@
--- `course::show_word` meets its contract.
+-- `course::show::show_word` meets its contract.
 use mathlib.Core.Path.{_≡_, sym, ap, _∙_}
 use mathlib.Core.Logic.{⊎-elim}
 use borrow.Author.Needs.{needs}
 use mir.Facts.{toZ-ofZ}
 use Rattle.guide.specs.Word.{wordAlone}
 use Rattle.words.specs.Formed.{formedSays}
-use Rattle.course.proofs.show_word.Statement.{statement}
-use Rattle.course.proofs.show_word.Tie as tie
+use Rattle.course.proofs.show.show_word.Statement.{statement}
+use Rattle.course.proofs.show.show_word.Tie as tie
 
 write-all-requires : tie.Need-write-all-requires
 write-all-requires c κs = search needs
