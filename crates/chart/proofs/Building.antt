@@ -1,18 +1,16 @@
 -- Laws of building: what its conditions decide, and its contract where it declines and where it builds.
 use mathlib.Core.Path.{_≡_, refl, sym, ap, _∙_}
-use mathlib.Core.Bool.{Bool, true, false, _&&_}
+use mathlib.Core.Bool.{Bool, true, false}
 use mathlib.Core.List.{List}
-use Prim.Native.Nat.{ℕ, zero, suc, _+_, _<_, _≤_}
+use Prim.Native.Nat.{ℕ, zero, suc, _≤_}
 use native.Mathlib.Omega.{arith}
-use native.Mathlib.Numerals.{add-one}
-use lib.ListN.{length, take, drop, getD, drop-of-length-le}
-use lib.Seq.{drop-cons}
+use lib.ListN.{length, take}
 use lib.Dec.{leb}
 use lib.IntN.{ℤ, pos}
 use borrow.Author.Tests.{leb-true}
 use Rattle.guide.specs.Choice.{require}
 use Rattle.guide.specs.Sizes.{baseWanted, baseMost}
-use Rattle.guide.specs.Kind.{isKind, inRange}
+use Rattle.guide.specs.Kind.{isKind}
 use Rattle.guide.specs.State.{fresh}
 use Rattle.guide.specs.Rejection.{rejection}
 use Rattle.guide.specs.Rejection as guide

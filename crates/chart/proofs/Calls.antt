@@ -6,17 +6,17 @@ use Prim.Native.Nat.{ℕ, zero, suc}
 use lib.ListN.{length, take}
 use lib.IntN.{ℤ, pos}
 use native.Mathlib.Omega.{arith}
-use Rattle.guide.specs.Choice.{require, choose}
+use Rattle.guide.specs.Choice.{require}
 use Rattle.guide.specs.Sizes.{baseWanted, baseMost, seriesMost}
 use Rattle.guide.specs.Word as word
 use Rattle.guide.specs.LastWords.{lastWords}
 use Rattle.guide.specs.Rejection.{rejection}
-use Rattle.guide.specs.State.{State, fresh, limitsFor, addWord, replaceLast, setStatus}
+use Rattle.guide.specs.State.{State, limitsFor, addWord, replaceLast, setStatus}
 use Rattle.guide.specs.Verdict.{verdict, statusFor}
 use Rattle.guide.specs.Reanalysis.{passes}
 use Rattle.guide.specs.Machine.{Call, post, reanalysis, correction, renewal, Answer, judged, reanalysed, corrected, renewed, refused}
-use Rattle.guide.specs.Machine.{Next, declined, refusalFor, wordFor, ifFormed, posting, afterReanalysis, reanalysing, correcting, renewing, performed}
-use Rattle.guide.specs.Machine.{step}
+use Rattle.guide.specs.Machine.{Next, declined, refusalFor, wordFor, ifFormed, posting, afterReanalysis, reanalysing}
+use Rattle.guide.specs.Machine.{correcting, renewing, performed, step}
 use Rattle.guide.proofs.Booleans.{by-test}
 use Rattle.chart.specs.Pad.{pad}
 use Rattle.chart.specs.declared.Chart.{Chart}
@@ -151,7 +151,8 @@ module _ (c : Chart) (call : Call) (kind : ℕ) (a b x : ℤ) (next : ℤ → Ne
   reading-declined zero m e h =
       let k = call-accepted c call 0 base series e refl in
       let same = sym (chart-of-state c (k .sound)) in
-      performed-gives c call k (declined (stateOf c) m) (p ∙ ap (λ (f : word.Formed). ifFormed (stateOf c) f next) h) c (refused m) same refl
+      let declines-it = p ∙ ap (λ (f : word.Formed). ifFormed (stateOf c) f next) h in
+      performed-gives c call k (declined (stateOf c) m) declines-it c (refused m) same refl
   reading-declined (suc n) m e h =
       let number : suc n ≡ m = ap refusalOf h in
       rw (← number) (call-declined c call (suc n) base series e (λ z. absurd (omega arith)))
@@ -166,8 +167,10 @@ module _ (c : Chart) (call : Call) (kind : ℕ) (a b x : ℤ) (next : ℤ → Ne
 
 module _ (c : Chart) (kind : ℕ) (a b x w : ℤ) (formed : wordFor (stateOf c .kind) kind a b x ≡ word.formed w) where
   -- the word is added with its verdict
-  pub posted : Accepted c (post kind a b x) → (v status : ℕ) (added d : Chart) → v ≡ verdict (limitsFor (stateOf c)) (addWord (stateOf c) w .series)
-      → added ≡ chartOf (addWord (stateOf c) w) → status ≡ statusFor v → d ≡ withStatus added status v → Gives c (post kind a b x) d (judged w v)
+  pub posted : Accepted c (post kind a b x) → (v status : ℕ) (added d : Chart)
+      → v ≡ verdict (limitsFor (stateOf c)) (addWord (stateOf c) w .series)
+      → added ≡ chartOf (addWord (stateOf c) w) → status ≡ statusFor v → d ≡ withStatus added status v
+      → Gives c (post kind a b x) d (judged w v)
   unfolding posting addWord
   posted k v status added d e f g h =
       let s = stateOf c in

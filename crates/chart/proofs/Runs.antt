@@ -1,23 +1,22 @@
 -- Lists of calls on the chart that stands for a sound state: chart and answers are the machine's, the chart stays sound, and 14 never
 -- occurs. So it is of every list from a chart that building gives (`built-runs`).
-use mathlib.Core.Path.{_≡_, refl, sym, ap, _∙_}
-use mathlib.Core.Bool.{Bool, true, _&&_}
+use mathlib.Core.Path.{_≡_, refl, ap, _∙_}
+use mathlib.Core.Bool.{true}
 use mathlib.Core.List.{List, [], _∷_, List·Memᴰ as Among}
 use Prim.Native.Nat.{ℕ, _≤_}
 use lib.ListN.{length}
-use lib.Dec.{leb}
 use lib.IntN.{ℤ}
 use borrow.Author.Tests.{le-leb}
 use Rattle.guide.specs.Sizes.{baseLeast, baseMost, seriesMost}
 use Rattle.guide.specs.State.{State}
 use Rattle.guide.specs.Building.{building, built}
 use Rattle.guide.specs.Soundness.{sound}
-use Rattle.guide.specs.Machine.{Call, Answer, refused, step, after, answers}
+use Rattle.guide.specs.Machine.{Call, refused, step, after, answers}
 use Rattle.guide.proofs.Soundness.{sound-facts, built-sound}
 use Rattle.guide.proofs.Machine.{step-sound, after-sound, after-ten, answers-not-fourteen}
 use Rattle.chart.specs.declared.Chart.{Chart}
-use Rattle.chart.specs.Chart.{stateOf, chartOf}
-use Rattle.chart.specs.Soundness.{unusedHoldZero, placesSound, soundChart}
+use Rattle.chart.specs.Chart.{chartOf}
+use Rattle.chart.specs.Soundness.{placesSound, soundChart}
 use Rattle.chart.specs.Calls.{nextChart, answerTo, chartAfterCalls, answersTo}
 use Rattle.chart.proofs.Places.{unused-of-pad}
 use Rattle.chart.proofs.State.{state-of-chart}

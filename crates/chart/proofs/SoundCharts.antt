@@ -1,18 +1,11 @@
 -- A sound chart as a record of facts.
-use mathlib.Core.Path.{_≡_, refl, ap, _∙_}
-use mathlib.Core.Bool.{Bool, true, false, _&&_}
-use mathlib.Core.List.{List}
-use Prim.Native.Nat.{ℕ, _-_, _≤_}
-use native.Mathlib.Omega.{arith}
-use lib.ListN.{length, take}
-use lib.Seq.{take-length}
-use lib.Dec.{leb, eqb}
-use lib.IntN.{ℤ}
+use mathlib.Core.Path.{_≡_}
+use mathlib.Core.Bool.{true, _&&_}
+use Prim.Native.Nat.{_≤_}
+use lib.Dec.{leb}
 use borrow.Author.Tests.{leb-true}
-use Rattle.guide.specs.Choice.{choose}
-use Rattle.guide.specs.LastWords.{butLast}
 use Rattle.guide.specs.Sizes.{baseMost, seriesMost}
-use Rattle.guide.specs.Soundness.{heldWithin, sound}
+use Rattle.guide.specs.Soundness.{sound}
 use Rattle.guide.proofs.Booleans.{both}
 use Rattle.chart.specs.declared.Chart.{Chart}
 use Rattle.chart.specs.Chart.{stateOf}

@@ -19,8 +19,8 @@ use Rattle.chart.specs.declared.RenewalAnswer.the-variants as renewal
 use Rattle.chart.specs.Chart.{stateOf, chartOf}
 use Rattle.chart.specs.Soundness.{soundChart}
 
--- 14 "a chart value handed in: not sound" comes before all that the machine declines, and the same chart comes back. A sound chart is the one
--- that stands for its state (`chart-of-state` in `proofs/State`), so a call that the machine declines gives the same chart too
+-- 14 "a chart value handed in: not sound" comes before all that the machine declines, and the same chart comes back. A sound chart is the
+-- one that stands for its state (`chart-of-state` in `proofs/State`), so a call that the machine declines gives the same chart too
 unfoldable pub nextChart : Chart → Call → Chart
 nextChart c call = choose (soundChart c) (chartOf (step (stateOf c) call .state)) c
 
@@ -60,7 +60,8 @@ unfoldable pub renewalSays : RenewalAnswer → Answer
 renewalSays (renewal.Done rounds removed) = renewed rounds removed
 renewalSays (renewal.Refused n) = refused n
 
--- ---- a list of calls: "The first call takes the chart from building or reading, each later one the chart that the call before it gave back"
+-- ---- a list of calls: "The first call takes the chart from building or reading, each later one the chart that the call before it gave
+-- back"
 
 unfoldable pub chartAfterCalls : Chart → List Call → Chart
 chartAfterCalls c [] = c

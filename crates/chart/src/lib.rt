@@ -170,7 +170,8 @@ impl Chart {
         }
     }
 
-    // A word that passes replaces the last of the series, and the chart is free again; one that fails leaves the series, and a correction is due.
+    // A word that passes replaces the last of the series, and the chart is free again; one that fails leaves the series, and a correction
+    // is due.
     pub fn reanalyse(mut self, kind: u16, a: i64, b: i64, c: i64) -> Reanalysed
         ensures { λ r. ⌜ Gives self (machine.reanalysis kind a b c) (r .chart) (reanalysisSays (r .answer)) ⌝ }
     {

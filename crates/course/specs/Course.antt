@@ -1,5 +1,5 @@
--- What the figures of the course are run on: the words of a chart around its mean, the reading that gives a word, and the chart after the words
--- that are posted to it.
+-- What the figures of the course are run on: the words of a chart around its mean, the reading that gives a word, and the chart after the
+-- words that are posted to it.
 use mathlib.Core.List.{List, [], _∷_, _++_}
 use Prim.Native.Nat.{ℕ}
 use lib.ListN.{replicate}

@@ -23,6 +23,7 @@ unfolding table isKind ignoresThird wordLeast inRange hasLower judgesSide isRead
     roundedQuotient fromReading wordAlone sumOf sumOfSquares sumsOf vOf scaledDeviation exceeds within aboveMean belowMean nearMean
     above below limitsOf beyondUpper beyondLower beyond beyondControl beyondWarning beyondUpperWarning beyondLowerWarning without afterRound
     rejectionWithin rejection lastWords butLast lastWord oneBeforeLast fresh limitsFor addWord replaceLast setStatus isBuildCount allInRange
-    buildRefusal building allOf eachNext isRun rising falling runAbove runBelow controlTest warningTest trendTest sideTest firstVerdict verdict statusFor
+    buildRefusal building allOf eachNext isRun rising falling runAbove runBelow controlTest warningTest trendTest sideTest
+    firstVerdict verdict statusFor
     turnsBack passesTrend passesVerdict passes postRefusal reanalysisRefusal wordFor posting afterReanalysis reanalysing step answers
 figures-hold = refl

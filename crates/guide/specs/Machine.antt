@@ -1,6 +1,6 @@
--- Document 01, "The machine" and "Lists": the calls, what they answer, one step, and a run over a list of calls from an accepted start (`built`
--- of `Building` holds the start after building). Refusal 14 is not the machine's: it is decided of the chart that is handed in
--- (`chart/specs/Calls`). From a sound start every state of a run is sound (`proofs/Machine`), so 14 never occurs in it.
+-- Document 01, "The machine" and "Lists": the calls, what they answer, one step, and a run over a list of calls from an accepted start
+-- (`built` of `Building` holds the start after building). Refusal 14 is not the machine's: it is decided of the chart that is handed in
+-- (`chart/specs/Calls`). From a sound start every state of a run is sound (`proofs/Machine`), so 14 never applies to a chart along it.
 use mathlib.Core.Bool.{Bool}
 use mathlib.Core.List.{List, [], _∷_, _++_}
 use Prim.Native.Nat.{ℕ, zero, suc, _+_}
@@ -23,8 +23,8 @@ pub data Call : Type 0 where
   correction : Call
   renewal : Call
 
--- a post answers "word and verdict", a reanalysis "the word and passed or failed", a renewal "rounds and number removed"; "A refusal carries
--- no word, verdict, count or line"
+-- a post answers "word and verdict", a reanalysis "the word and passed or failed", a renewal "rounds and number removed"; "A refusal
+-- carries no word, verdict, count or line"
 pub data Answer : Type 0 where
   judged : (w : ℤ) (v : ℕ) → Answer
   reanalysed : (w : ℤ) (passed : Bool) → Answer

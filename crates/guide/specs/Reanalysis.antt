@@ -40,7 +40,7 @@ passesVerdict limits openVerdict series w =
     (choose (eqb openVerdict 4) (passesSide limits series w)
     true))
 
--- "Reanalysis passes if its word is not beyond a control limit and", by verdict, the rest. The series is the one that stands, and its last word
--- is the one that the reanalysis would replace
+-- Reanalysis "passes if its word is not beyond a control limit and", by verdict, the rest. The series is the one that stands, and its last
+-- word is the one that the reanalysis would replace
 unfoldable pub passes : Limits → ℕ → List ℤ → ℤ → Bool
 passes limits openVerdict series w = not (beyondControl limits w) && passesVerdict limits openVerdict series w

@@ -1,4 +1,5 @@
--- Document 01, "Stored form": when a chart is sound. That "unused places hold 0" is said of the program's chart, in `chart/specs/Soundness`.
+-- Document 01, "Stored form": when a chart is sound. That "unused places hold 0" is said of the program's chart, in
+-- `chart/specs/Soundness`.
 use mathlib.Core.Bool.{Bool, _&&_}
 use mathlib.Core.List.{List}
 use Prim.Native.Nat.{ℕ}

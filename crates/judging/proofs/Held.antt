@@ -12,7 +12,8 @@ use Rattle.guide.specs.Choice.{choose}
 use Rattle.guide.specs.LastWords.{butLast}
 use Rattle.guide.specs.Soundness.{heldWithin}
 
-held-by : (free : Bool) (series : List ℤ) → take (choose free (length series) (length series - 1)) series ≡ choose free series (butLast series)
+held-by : (free : Bool) (series : List ℤ)
+    → take (choose free (length series) (length series - 1)) series ≡ choose free series (butLast series)
 unfolding butLast
 held-by true series = take-length series
 held-by false series = refl

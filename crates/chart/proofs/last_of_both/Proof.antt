@@ -5,7 +5,7 @@ use Prim.Native.Nat.{ℕ, _+_, _-_, _≤_}
 use native.Mathlib.Omega.{arith}
 use borrow.Author.Needs.{needs, sfits-of}
 use denote.Ref.{now}
-use lib.ListN.{length, take, getD, length-append, set}
+use lib.ListN.{length, take, getD, length-append}
 use lib.Seq.{take-all}
 use lib.IntN.{ℤ, pos}
 use mir.Facts.{toZ-ofZ}

@@ -1,5 +1,4 @@
 -- `chart::word_unless` meets its contract.
-use mathlib.Core.Path.{_≡_, refl}
 use borrow.Author.Needs.{needs}
 use mir.Facts.{toZ-ofZ}
 use Rattle.words.specs.Formed.{formedSays}

@@ -1,6 +1,5 @@
 -- `limits::near_mean` meets its contract.
 use mathlib.Core.Path.{ap, _∙_}
-use Prim.Native.Nat.{_<_, _^_}
 use native.Mathlib.Omega.{arith}
 use borrow.Author.Needs.{needs}
 use Rattle.guide.specs.Limits.{within, nearMean}

@@ -1,5 +1,4 @@
 -- `limits::side_of_mean` meets its contract.
-use Prim.Native.Nat.{_<_, _^_}
 use native.Mathlib.Omega.{arith}
 use borrow.Author.Needs.{needs}
 use Rattle.guide.specs.Limits.{aboveMean, belowMean}

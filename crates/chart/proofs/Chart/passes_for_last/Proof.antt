@@ -1,5 +1,5 @@
 -- `chart::Chart::passes_for_last` meets its contract.
-use mathlib.Core.Path.{sym, _∙_}
+use mathlib.Core.Path.{sym}
 use borrow.Author.Needs.{needs}
 use mir.Facts.{toZ-ofZ}
 use Rattle.chart.specs.Chart.{stateOf}

@@ -65,8 +65,8 @@ taken c =
     let a = start .args in
     let number = called .before .post-refusal in
     let gives = sym (formed called) ∙ ap formedSays (c .before .formed .given .1) in
-    reading-taken (a .self) (call start) (a .kind) (a .a) (a .b) (a .c) (posting (stateOf (a .self))) (places start .0) (places start .1) refl
-    (number .result) (word-of c) (number .ensures) gives
+    reading-taken (a .self) (call start) (a .kind) (a .a) (a .b) (a .c) (posting (stateOf (a .self))) (places start .0)
+    (places start .1) refl (number .result) (word-of c) (number .ensures) gives
 
 -- the chart is sound, and its series has room
 room : (c : tie.After-known-told) → let self = c .before .before .before .before .before .args .self in
@@ -117,8 +117,8 @@ returns-2 c =
     let a = start .args in
     let number = called .before .post-refusal in
     let gives = sym (formed called) ∙ ap formedSays (given .1) in
-    reading-declined (a .self) (call start) (a .kind) (a .a) (a .b) (a .c) (posting (stateOf (a .self))) (places start .0) (places start .1) refl
-    (number .result) (given .0 .0) (number .ensures) gives
+    reading-declined (a .self) (call start) (a .kind) (a .a) (a .b) (a .c) (posting (stateOf (a .self))) (places start .0)
+    (places start .1) refl (number .result) (given .0 .0) (number .ensures) gives
 
 pub post-spec : {M : Type 1} → statement M
 post-spec =

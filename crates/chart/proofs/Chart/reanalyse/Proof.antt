@@ -66,8 +66,8 @@ taken c =
     let start = called .before .before in
     let a = start .args in
     let gives = sym (formed called) ∙ ap formedSays (c .before .formed .given .1) in
-    reading-taken (a .self) (call start) (a .kind) (a .a) (a .b) (a .c) (reanalysing (stateOf (a .self))) (places start .0) (places start .1) refl
-    (called .before .status-refusal .result) (word-of c) (number (called .before)) gives
+    reading-taken (a .self) (call start) (a .kind) (a .a) (a .b) (a .c) (reanalysing (stateOf (a .self))) (places start .0)
+    (places start .1) refl (called .before .status-refusal .result) (word-of c) (number (called .before)) gives
 
 passes-for-last-requires : tie.Need-passes-for-last-requires
 passes-for-last-requires c κs = taken c .0 .is-sound
@@ -123,8 +123,8 @@ returns-3 c =
     let start = called .before .before in
     let a = start .args in
     let gives = sym (formed called) ∙ ap formedSays (given .1) in
-    reading-declined (a .self) (call start) (a .kind) (a .a) (a .b) (a .c) (reanalysing (stateOf (a .self))) (places start .0) (places start .1) refl
-    (called .before .status-refusal .result) (given .0 .0) (number (called .before)) gives
+    reading-declined (a .self) (call start) (a .kind) (a .a) (a .b) (a .c) (reanalysing (stateOf (a .self))) (places start .0)
+    (places start .1) refl (called .before .status-refusal .result) (given .0 .0) (number (called .before)) gives
 
 pub reanalyse-spec : {M : Type 1} → statement M
 reanalyse-spec =

@@ -1,18 +1,14 @@
 -- `chart::Chart::renew` meets its contract.
-use mathlib.Core.Path.{_≡_}
-use mathlib.Core.Bool.{true}
 use mathlib.Core.List.{_++_}
 use Prim.Native.Nat.{_+_, _≤_}
 use native.Mathlib.Omega.{arith}
 use borrow.Author.Needs.{needs}
 use lib.ListN.{length, length-append}
 use Rattle.guide.specs.Sizes.{baseWanted}
-use Rattle.guide.specs.LastWords.{lastWords}
 use Rattle.guide.specs.Machine.{renewal}
 use Rattle.guide.proofs.LastWords.{length-last-words}
 use Rattle.guide.proofs.Machine.{can-renew}
 use Rattle.chart.specs.Chart.{stateOf}
-use Rattle.chart.specs.Soundness.{soundChart}
 use Rattle.chart.specs.Calls.{renewalSays}
 use Rattle.chart.proofs.State.{base-count, series-count}
 use Rattle.chart.proofs.Calls.{Accepted, call-declined, call-accepted, renewal-gives}
@@ -57,8 +53,8 @@ returns-2 c =
     let s = stateOf self in
     let all = s .base ++ s .series in
     let count = length-last-words baseWanted all (omega (arith, enough (called .before), length-append (s .base) (s .series))) in
-    renewal-gives self (called .last-words .result) (c .before .settle .result) (accepted (called .before)) count (called .last-words .ensures)
-    (c .before .settle .ensures)
+    renewal-gives self (called .last-words .result) (c .before .settle .result) (accepted (called .before)) count
+    (called .last-words .ensures) (c .before .settle .ensures)
 
 pub renew-spec : {M : Type 1} → statement M
 renew-spec =

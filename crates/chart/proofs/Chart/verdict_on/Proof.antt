@@ -55,7 +55,8 @@ verdict-requires : tie.Need-verdict-requires
 verdict-requires c κs = c .before .before .limits .ensures .bounded
 
 -- as many words as the chart says and one more are the series with the word added
-judged : (c : tie.Start) → let self = c .args .self in take (self .«series_len» + 1) (places c) ≡ addWord (stateOf self) (c .args .w) .series
+judged : (c : tie.Start) → let self = c .args .self in
+    take (self .«series_len» + 1) (places c) ≡ addWord (stateOf self) (c .args .w) .series
 unfolding addWord stateOf
 judged c =
     let self = c .args .self in

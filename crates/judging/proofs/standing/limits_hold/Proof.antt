@@ -1,13 +1,10 @@
 -- `judging::standing::limits_hold` meets its contract.
 use mathlib.Core.Path.{_≡_, sym, ap, _∙_}
-use mathlib.Core.Bool.{_&&_}
-use mathlib.Core.List.{List}
 use Prim.Native.Nat.{_≤_}
 use borrow.Author.Needs.{needs}
 use denote.Ref.{now}
 use lib.ListN.{length}
 use lib.Seq.{length-take-le}
-use lib.IntN.{ℤ}
 use Rattle.guide.specs.AllOf.{noneOf}
 use Rattle.guide.specs.Limits.{beyondControl}
 use Rattle.guide.specs.Soundness.{limitsHold}

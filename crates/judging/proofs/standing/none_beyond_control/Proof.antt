@@ -1,5 +1,5 @@
--- `judging::standing::none_beyond_control` meets its contract. The loop's invariant: none of the words is beyond exactly if none of those that
--- remain is.
+-- `judging::standing::none_beyond_control` meets its contract. The loop's invariant: none of the words is beyond exactly if none of those
+-- that remain is.
 use mathlib.Core.Path.{_≡_, refl, sym, ap, _∙_}
 use mathlib.Core.Bool.{Bool, not}
 use Prim.Native.Nat.{_-_, _≤_}
@@ -9,7 +9,7 @@ use denote.Ref.{now}
 use lib.ListN.{length, drop, getD}
 use lib.IntN.{ℤ, pos}
 use mir.Facts.{toZ-ofZ}
-use Rattle.guide.specs.AllOf.{allOf, noneOf}
+use Rattle.guide.specs.AllOf.{noneOf}
 use Rattle.guide.specs.Limits.{beyondControl}
 use Rattle.guide.proofs.AllOf.{all-none, all-fails, all-passes}
 use Rattle.limits.specs.Sums.{limitsSay}
