@@ -20,7 +20,8 @@ use Rattle.chart.specs.Chart.{stateOf, chartOf}
 use Rattle.chart.specs.Soundness.{soundChart}
 
 -- 14 "a chart value handed in: not sound" comes before all that the machine declines, and the same chart comes back. A sound chart is the
--- one that stands for its state (`chart-of-state` in `proofs/State`), so a call that the machine declines gives the same chart too
+-- one that stands for its state, its arrays being as long as its type says (`chart-of-state` in `proofs/State`), so a call that the machine
+-- declines gives the same chart too
 unfoldable pub nextChart : Chart → Call → Chart
 nextChart c call = choose (soundChart c) (chartOf (step (stateOf c) call .state)) c
 
@@ -31,6 +32,8 @@ answerTo c call = choose (soundChart c) (step (stateOf c) call .answer) (refused
 pub record Gives (c : Chart) (call : Call) (next : Chart) (answer : Answer) : Type 0 where
   pub chart : next ≡ nextChart c call
   pub says : answer ≡ answerTo c call
+
+-- ---- what the calls' parts give: `post_refusal`, `status_refusal`, `renewal_refusal`, `word_unless`
 
 -- 14 first, and then the number that the machine declines the call for before it looks at what the call brings, or 0
 unfoldable pub refusalOn : Chart → ℕ → ℕ
@@ -61,7 +64,7 @@ renewalSays (renewal.Done rounds removed) = renewed rounds removed
 renewalSays (renewal.Refused n) = refused n
 
 -- ---- a list of calls: "The first call takes the chart from building or reading, each later one the chart that the call before it gave
--- back"
+-- back". What a call gives back is `nextChart` and `answerTo`, by its contract; `proofs/Runs` has how these runs and the machine's agree
 
 unfoldable pub chartAfterCalls : Chart → List Call → Chart
 chartAfterCalls c [] = c

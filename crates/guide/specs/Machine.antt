@@ -119,8 +119,7 @@ unlessRefused s (suc n) next = declined s (suc n)
 unfoldable pub step : State → Call → Next
 step s call = unlessRefused s (refusalFor s call) (performed s call)
 
--- "The list may be empty." "The first call takes the chart from building or reading, each later one the chart that the call before it gave
--- back"
+-- "The list may be empty." "The machine is fed its start and what the calls bring, never the program's chart or answers."
 unfoldable pub after : State → List Call → State
 after s [] = s
 after s (call ∷ calls) = after (step s call .state) calls

@@ -32,7 +32,8 @@ passesTrend limits series w = nearMean (limits .sums) w || turnsBack series w
 unfoldable pub passesSide : Limits → List ℤ → ℤ → Bool
 passesSide limits series w = nearMean (limits .sums) w || not (onRunsSide limits series w)
 
--- what the open verdict asks beside the control limits. Verdict 1 asks nothing more; nor does a number that is open in no sound chart
+-- what the open verdict asks beside the control limits. Verdict 1 asks nothing more; nor does 0 or a number
+-- above 4, neither of which goes with status 1 in a sound chart
 unfoldable pub passesVerdict : Limits → ℕ → List ℤ → ℤ → Bool
 passesVerdict limits openVerdict series w =
     choose (eqb openVerdict 2) (passesWarning limits w)
