@@ -3,7 +3,7 @@
 // Building declines, in this order: 1 a kind that is not 1..3, 2 words that are not 15..32, 3 a word out of range. A refused build
 // gives the chart of zeros.
 //
-// Every call declines first, with 14, a chart that is not sound, before it looks at any place. Then, in this order: post 8 (status not 0),
+// Every call declines first, with 14, a chart that is not sound, whatever its lengths are. Then, in this order: post 8 (status not 0),
 // 9 (366 words in the series), 4 (a reading of another kind), 5, 6, 7; reanalyse 10 (status not 1), 4, 5, 6, 7; correct 11 (status not 2);
 // renew 8, 12 (base and series below 15). A refused call gives back the very chart that came.
 mod rejection;

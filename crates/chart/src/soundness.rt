@@ -1,5 +1,5 @@
-// Whether a chart is sound: document 01, "Stored form". Any value of the type may be handed in, so its lengths are looked at before a
-// place is.
+// Whether a chart is sound: document 01, "Stored form". Any value of the type may be handed in, so words are taken of the arrays only
+// where the lengths are known to lie within them.
 use crate::Chart;
 use judging::standing::limits_hold;
 use judging::standing::status_fits;
