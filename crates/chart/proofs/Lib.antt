@@ -1,7 +1,7 @@
-mod Places
+pub mod Places
 mod Rounds
-mod SoundCharts
-mod State
+pub mod SoundCharts
+pub mod State
 mod Building
 mod Calls
-mod Runs
+pub mod Runs

@@ -464,7 +464,8 @@ fn fresh_chart(kind: u16, base: [i16; Chart::BASE_MOST], n: usize) -> Chart
     }
 }
 
-fn zero_chart() -> Chart
+// The chart that goes with a refused build or read.
+pub fn zero_chart() -> Chart
     ensures { λ r. ⌜ r ≡ zeroChart ⌝ }
 {
     fresh_chart(0, [0; Chart::BASE_MOST], 0)

@@ -208,13 +208,28 @@ pub fn show_chart(text: &[u8], chart: Chart) -> Chart
     ensures { λ r. ⌜ r ≡ chart ⌝ }
 {
     io::write_all(STDOUT_FILENO, text);
+    show_words_of(chart);
+    io::write_all(STDOUT_FILENO, b"\n");
+    chart
+}
+
+// .. with the status and the open verdict.
+pub fn show_parts(chart: Chart) -> Chart
+    ensures { λ r. ⌜ r ≡ chart ⌝ }
+{
+    show_words_of(chart);
+    show_status(chart)
+}
+
+fn show_words_of(chart: Chart) -> Chart
+    ensures { λ r. ⌜ r ≡ chart ⌝ }
+{
     io::write_all(STDOUT_FILENO, b"kind ");
     io::print_decimal(STDOUT_FILENO, chart.kind as u64);
     let base = chart.base;
     show_words(b" base of ", &base, chart.base_len);
     let series = chart.series;
     show_words(b"; series of ", &series, chart.series_len);
-    io::write_all(STDOUT_FILENO, b"\n");
     chart
 }
 
@@ -260,7 +275,7 @@ fn show_rounds(rounds: usize, removed: usize) -> usize
     rounds
 }
 
-fn show_refusal(n: u16) -> u16
+pub fn show_refusal(n: u16) -> u16
     ensures { λ r. ⌜ r ≡ n ⌝ }
 {
     io::write_all(STDOUT_FILENO, b"refused ");
@@ -276,4 +291,11 @@ fn show_number(w: i16) -> i16
     }
     io::print_decimal(STDOUT_FILENO, limits::magnitude(w as i64));
     w
+}
+
+pub fn show_decimal(n: usize) -> usize
+    ensures { λ r. ⌜ r ≡ n ⌝ }
+{
+    io::print_decimal(STDOUT_FILENO, n as u64);
+    n
 }

@@ -13,4 +13,7 @@ pub mod Verdict
 pub mod Reanalysis
 pub mod Soundness
 pub mod Machine
+pub mod Bytes
+pub mod StoredForm
+pub mod Reading
 pub mod Figures

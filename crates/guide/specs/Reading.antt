@@ -1,0 +1,89 @@
+-- Document 01, "Stored form": what reading bytes gives. They are looked at record by record, and each record's length says where it ends.
+-- `proofs/Reading` has that bytes which are read are the stored form of the state that they give, and that a sound state's form gives it.
+use mathlib.Core.Bool.{Bool, _&&_}
+use mathlib.Core.List.{List, map}
+use Prim.Native.Nat.{ℕ, _+_, _-_, _/_, _%_}
+use lib.ListN.{length, drop, getD}
+use lib.Dec.{leb, eqb}
+use Rattle.guide.specs.Choice.{require}
+use Rattle.guide.specs.Sizes.{baseLeast, baseMost, seriesMost}
+use Rattle.guide.specs.State.{State, state}
+use Rattle.guide.specs.Soundness.{sound}
+use Rattle.guide.specs.Bytes.{numberIn, numbersIn, wordOf}
+
+-- ---- the record at the front of bytes
+
+-- "its length (bytes after the length itself)"
+unfoldable pub lengthIn : List ℕ → ℕ
+lengthIn bytes = numberIn bytes
+
+-- "then its record kind"
+unfoldable pub recordKindIn : List ℕ → ℕ
+recordKindIn bytes = numberIn (drop 2 bytes)
+
+-- how many numbers follow the record kind: of the bytes after the length, two are the record kind's, and each number has two
+unfoldable pub countIn : List ℕ → ℕ
+countIn bytes = (lengthIn bytes - 2) / 2
+
+unfoldable pub recordNumbers : List ℕ → List ℕ
+recordNumbers bytes = numbersIn (countIn bytes) (drop 4 bytes)
+
+-- the bytes that follow the record
+unfoldable pub afterRecord : List ℕ → List ℕ
+afterRecord bytes = drop (2 + lengthIn bytes) bytes
+
+-- there is a record: its length is that of a record kind and of numbers in two bytes each, and as many bytes are there
+unfoldable pub isRecord : List ℕ → Bool
+isRecord bytes = (leb 2 (lengthIn bytes) && eqb (lengthIn bytes % 2) 0) && leb (2 + lengthIn bytes) (length bytes)
+
+-- .. of this record kind, and its numbers are at least `least` and at most `most`
+unfoldable pub startsWith : (recordKind least most : ℕ) → List ℕ → Bool
+startsWith recordKind least most bytes =
+    isRecord bytes
+    && (eqb (recordKindIn bytes) recordKind
+    && (leb least (countIn bytes) && leb (countIn bytes) most))
+
+-- ---- the three records
+
+-- the bytes from the second record on, and from the third on
+unfoldable pub fromBase : List ℕ → List ℕ
+fromBase bytes = afterRecord bytes
+
+unfoldable pub fromSeries : List ℕ → List ℕ
+fromSeries bytes = afterRecord (fromBase bytes)
+
+-- the first record's numbers: "length 8" is a record kind and three
+abbrev pub headCount : ℕ
+headCount = 3
+
+-- "Record kind 1: length 8", "Record kind 2: the 10..32 base words. Record kind 3: the 0..366 series words. They stand in this order and
+-- nothing follows."
+unfoldable pub isForm : List ℕ → Bool
+isForm bytes =
+    startsWith 1 headCount headCount bytes
+    && (startsWith 2 baseLeast baseMost (fromBase bytes)
+    && (startsWith 3 0 seriesMost (fromSeries bytes)
+    && eqb (length (afterRecord (fromSeries bytes))) 0))
+
+-- "the chart kind, base, series, status and open verdict that the records in the bytes hold"
+unfoldable pub heldIn : List ℕ → State
+heldIn bytes =
+    let head = recordNumbers bytes in
+    let base = map wordOf (recordNumbers (fromBase bytes)) in
+    let series = map wordOf (recordNumbers (fromSeries bytes)) in
+    state (getD head 0 0) base series (getD head 1 0) (getD head 2 0)
+
+-- ---- reading
+
+-- the state, which is the machine's "start after reading", or the number for what is declined. The "chart of zeros" that goes with a
+-- refusal is a value of the program's type: `chart/specs/Chart` has it
+pub data ReadingAnswer : Type 0 where
+  taken : State → ReadingAnswer
+  refused : ℕ → ReadingAnswer
+
+-- 13 "not three records as above, by lengths, record kinds, order, word counts (10..32, 0..366) or bytes left over", then 14 "not sound"
+unfoldable pub reading : List ℕ → ReadingAnswer
+reading bytes =
+    require (isForm bytes) (refused 13)
+    (require (sound (heldIn bytes)) (refused 14)
+    (taken (heldIn bytes)))

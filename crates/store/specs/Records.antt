@@ -1,0 +1,57 @@
+-- What the functions that look for records give, by the definitions of `guide/specs/Reading` at the bytes from a byte on.
+use mathlib.Core.Path.{_≡_}
+use mathlib.Core.List.{List, _++_, map}
+use Prim.Native.Nat.{ℕ, _+_, _*_, _≤_}
+use lib.ListN.{length, drop}
+use lib.IntN.{ℤ}
+use Rattle.guide.specs.Choice.{choose}
+use Rattle.guide.specs.Bytes.{numbersIn, wordOf}
+use Rattle.guide.specs.Reading.{lengthIn, recordKindIn, countIn, isRecord, startsWith, isForm}
+use Rattle.store.specs.declared.reader.Seen.{Seen}
+use Rattle.store.specs.declared.reader.Seen.the-variants as seen
+use Rattle.store.specs.declared.records.Place.{Place}
+use Rattle.store.specs.declared.records.Found.{Found}
+use Rattle.store.specs.declared.records.Found.the-variants as found
+use Rattle.store.specs.declared.Layout.{Layout}
+use Rattle.store.specs.declared.Layout.the-variants as layout
+
+-- the record at the front of bytes, of whatever kind
+unfoldable pub recordIn : List ℕ → Seen
+recordIn bytes = choose (isRecord bytes) (seen.Record (recordKindIn bytes) (countIn bytes)) seen.Nothing
+
+-- where the record is that begins at a byte: its numbers come after its length and its record kind
+unfoldable pub placeAt : ℕ → List ℕ → Place
+placeAt at bytes =
+    let there = drop at bytes in
+    record { numbers = at + 4; count = countIn there; end = at + (2 + lengthIn there) }
+
+-- the record that begins at a byte, if it is of this record kind and its numbers are at least `least` and at most `most`
+unfoldable pub recordAt : (recordKind least most : ℕ) → ℕ → List ℕ → Found
+recordAt recordKind least most at bytes =
+    choose (startsWith recordKind least most (drop at bytes)) (found.Record (placeAt at bytes)) found.Nothing
+
+-- where the three records of a stored form are, each where the one before it ends
+unfoldable pub headPlace : List ℕ → Place
+headPlace bytes = placeAt 0 bytes
+
+unfoldable pub basePlace : List ℕ → Place
+basePlace bytes = placeAt (headPlace bytes .end) bytes
+
+unfoldable pub seriesPlace : List ℕ → Place
+seriesPlace bytes = placeAt (basePlace bytes .end) bytes
+
+unfoldable pub layoutOf : List ℕ → Layout
+layoutOf bytes = choose (isForm bytes) (layout.Form (headPlace bytes) (basePlace bytes) (seriesPlace bytes)) layout.Other
+
+-- the numbers of the record at a place
+unfoldable pub numbersAt : List ℕ → Place → List ℕ
+numbersAt bytes p = numbersIn (p .count) (drop (p .numbers) bytes)
+
+-- they lie within the bytes
+pub record LiesWithin (bytes : List ℕ) (p : Place) : Type 0 where
+  pub enough : p .numbers + 2 * p .count ≤ length bytes
+
+-- the words of the record go to the first places of an array, and the places after them stay
+pub record Fills (bytes : List ℕ) (p : Place) (before after : List ℤ) (count : ℕ) : Type 0 where
+  pub places : after ≡ map wordOf (numbersAt bytes p) ++ drop (p .count) before
+  pub number : count ≡ p .count

@@ -1,0 +1,78 @@
+-- What writing and reading a chart give: document 01's writing and reading, through the state that the chart stands for.
+use mathlib.Core.Path.{_≡_}
+use mathlib.Core.Bool.{_&&_}
+use mathlib.Core.List.{List}
+use Prim.Native.Nat.{ℕ, _+_, _*_}
+use Rattle.guide.specs.Choice.{require, choose}
+use Rattle.guide.specs.StoredForm.{WritingAnswer, wrote, hasRoom, writing, bufferAfter}
+use Rattle.guide.specs.StoredForm as form
+use Rattle.guide.specs.Reading.{ReadingAnswer, taken, refused, headCount, reading}
+use Rattle.chart.specs.declared.Chart.{Chart}
+use Rattle.chart.specs.Chart.{stateOf, chartOf, zeroChart}
+use Rattle.chart.specs.Soundness.{soundChart}
+use Rattle.store.specs.declared.WriteAnswer.{WriteAnswer}
+use Rattle.store.specs.declared.WriteAnswer.the-variants as write
+use Rattle.store.specs.declared.ReadAnswer.{ReadAnswer}
+use Rattle.store.specs.declared.ReadAnswer.the-variants as read
+use Rattle.store.specs.declared.ReadChart.{ReadChart}
+
+-- the bytes of a record of n numbers: its length, its record kind and the numbers
+unfoldable pub recordSize : ℕ → ℕ
+recordSize n = 4 + 2 * n
+
+-- the bytes of a stored form with n base words and m series words
+unfoldable pub formSize : ℕ → ℕ → ℕ
+formSize n m = recordSize headCount + recordSize n + recordSize m
+
+-- ---- writing
+
+unfoldable pub writeSays : WriteAnswer → WritingAnswer
+writeSays (write.Done n) = wrote n
+writeSays (write.Refused n) = form.refused n
+
+-- 14 "a chart value handed in: not sound" comes first
+unfoldable pub answerToWrite : Chart → List ℕ → WritingAnswer
+answerToWrite c buffer = require (soundChart c) (form.refused 14) (writing (stateOf c) buffer)
+
+unfoldable pub bufferAfterWrite : Chart → List ℕ → List ℕ
+bufferAfterWrite c buffer = require (soundChart c) buffer (bufferAfter (stateOf c) buffer)
+
+-- the contract of writing: its answer, and every byte of the buffer
+pub record Writes (c : Chart) (before after : List ℕ) (r : WriteAnswer) : Type 0 where
+  pub says : writeSays r ≡ answerToWrite c before
+  pub buffer : after ≡ bufferAfterWrite c before
+
+-- ---- reading
+
+-- what the cases say, of the chart that is given with them
+unfoldable pub readSays : Chart → ReadAnswer → ReadingAnswer
+readSays c read.Done = taken (stateOf c)
+readSays c (read.Refused n) = refused n
+
+-- the chart that goes with reading's answer: "a refused build or read gives a chart of zeros"
+unfoldable pub chartAfterReading : ReadingAnswer → Chart
+chartAfterReading (taken s) = chartOf s
+chartAfterReading (refused n) = zeroChart
+
+-- r says what reading's answer a says, and its chart is the one that goes with it
+pub record IsRead (a : ReadingAnswer) (r : ReadChart) : Type 0 where
+  pub chart : r .chart ≡ chartAfterReading a
+  pub says : readSays (r .chart) (r .answer) ≡ a
+
+-- ---- writing, and then reading the bytes that were written
+
+-- 14 and 15 are writing's; a sound chart for which there is room is answered as it was
+unfoldable pub answerToReturn : Chart → List ℕ → ReadingAnswer
+answerToReturn c buffer =
+    require (soundChart c) (refused 14)
+    (require (hasRoom (stateOf c) buffer) (refused 15)
+    (taken (stateOf c)))
+
+-- the very chart, or where writing declines the chart of zeros
+unfoldable pub chartReturned : Chart → List ℕ → Chart
+chartReturned c buffer = choose (soundChart c && hasRoom (stateOf c) buffer) c zeroChart
+
+pub record Returns (c : Chart) (before after : List ℕ) (r : ReadChart) : Type 0 where
+  pub chart : r .chart ≡ chartReturned c before
+  pub says : readSays (r .chart) (r .answer) ≡ answerToReturn c before
+  pub buffer : after ≡ bufferAfterWrite c before

@@ -1,0 +1,214 @@
+// The stored form of a chart: document 01, "Stored form". Three records; every number little-endian in two bytes, words in two's
+// complement, all by arithmetic on bytes, so that the machine's own order plays no part.
+//
+// Writing declines, in this order: 14 a chart that is not sound, 15 a buffer shorter than the stored form; either leaves the buffer
+// as it was. Reading declines, in this order: 13 bytes that are not the three records, before any content is looked at, 14 a chart that is
+// not sound; either gives the chart of zeros.
+pub mod numbers;
+mod reader;
+mod records;
+
+use chart::Chart;
+use chart::zero_chart;
+use numbers::word_of;
+use reader::Cursor;
+use records::Found;
+use records::Place;
+use records::find_record;
+use records::nth_number;
+use records::put_record;
+use records::record_size;
+ghost use mathlib.Core.Path.{_≡_};
+ghost use mathlib.Core.Bool.{true};
+ghost use Prim.Native.Nat.{_≤_};
+ghost use lib.ListN.{length};
+ghost use Rattle.guide.specs.Sizes.{baseMost, seriesMost};
+ghost use Rattle.guide.specs.StoredForm.{storedForm};
+ghost use Rattle.guide.specs.Reading.{heldIn, reading, refused};
+ghost use Rattle.chart.specs.Chart.{stateOf, chartOf};
+ghost use Rattle.chart.specs.Soundness.{soundChart};
+ghost use Rattle.store.specs.Placed.{Placed};
+ghost use Rattle.store.specs.Records.{layoutOf, LiesWithin, Fills};
+ghost use Rattle.store.specs.Store.{Writes, IsRead, Returns, formSize};
+ghost use Rattle.store.specs.declared.Layout.the-variants as layout;
+
+pub enum WriteAnswer {
+    // The number of bytes.
+    Done(usize),
+    Refused(u16),
+}
+
+pub enum ReadAnswer {
+    Done,
+    Refused(u16),
+}
+
+pub struct ReadChart {
+    pub chart: Chart,
+    pub answer: ReadAnswer,
+}
+
+// Where the three records of a stored form stand.
+enum Layout {
+    Form {
+        head: Place,
+        base: Place,
+        series: Place,
+    },
+    Other,
+}
+
+// The record kinds, and the numbers of the first record: chart kind, status, open verdict.
+const HEAD: u16 = 1;
+
+const BASE: u16 = 2;
+
+const SERIES: u16 = 3;
+
+const HEAD_COUNT: usize = 3;
+
+// The stored form goes to the front of the buffer; the bytes after it stay.
+pub fn write(chart: Chart, out: &mut [u8]) -> WriteAnswer
+    ensures { λ r. ⌜ Writes chart (now (out .entry)) (now (out .exit)) r ⌝ }
+{
+    if !chart.sound() {
+        return WriteAnswer::Refused(14);
+    }
+    if out.len() < form_size(chart.base_len, chart.series_len) {
+        return WriteAnswer::Refused(15);
+    }
+    WriteAnswer::Done(put_form(chart, out))
+}
+
+pub fn read(bytes: &[u8]) -> ReadChart
+    ensures { λ r. ⌜ IsRead (reading (now (bytes .entry))) r ⌝ }
+{
+    let Layout::Form { head, base, series } = lay_out(bytes) else {
+        return declined_read(13);
+    };
+    let chart = chart_in(bytes, head, base, series);
+    if !chart.sound() {
+        return declined_read(14);
+    }
+    ReadChart {
+        chart,
+        answer: ReadAnswer::Done,
+    }
+}
+
+// Writes a chart and reads back the bytes that were written: the same chart comes. Where writing declines, its number comes with the chart
+// of zeros.
+pub fn write_and_read(chart: Chart, out: &mut [u8]) -> ReadChart
+    ensures { λ r. ⌜ Returns chart (now (out .entry)) (now (out .exit)) r ⌝ }
+{
+    let written = write(chart, out);
+    match written {
+        WriteAnswer::Done(size) => read(&out[..size]),
+        WriteAnswer::Refused(number) => declined_read(number),
+    }
+}
+
+// ---- writing
+
+// The bytes of the stored form of n base words and m series words.
+fn form_size(n: usize, m: usize) -> usize
+    requires { ⌜ (n ≤ baseMost) × (m ≤ seriesMost) ⌝ }
+    ensures { λ r. ⌜ r ≡ formSize n m ⌝ }
+{
+    record_size(HEAD_COUNT) + record_size(n) + record_size(m)
+}
+
+// The stored form of a sound chart, at the front of a buffer that has room for it. Answers its number of bytes.
+fn put_form(chart: Chart, out: &mut [u8]) -> usize
+    requires { ⌜ (soundChart chart ≡ true) × (formSize (chart .«base_len») (chart .«series_len») ≤ length (now out)) ⌝ }
+    ensures { λ r. ⌜ Placed (now (out .entry)) 0 (storedForm (stateOf chart)) (now (out .exit)) r ⌝ }
+{
+    let head = [
+        word_of(chart.kind),
+        word_of(chart.status),
+        word_of(chart.open_verdict),
+    ];
+    let base = chart.base;
+    let n = chart.base_len;
+    let series = chart.series;
+    let m = chart.series_len;
+    let second = put_record(out, 0, HEAD, &head);
+    let third = put_record(out, second, BASE, &base[..n]);
+    put_record(out, third, SERIES, &series[..m])
+}
+
+// ---- reading
+
+// Finds the three records, one behind the other, with nothing after them.
+fn lay_out(bytes: &[u8]) -> Layout
+    ensures { λ r. ⌜ r ≡ layoutOf (now (bytes .entry)) ⌝ }
+{
+    let Found::Record(head) = find_record(bytes, Cursor { at: 0 }, HEAD, HEAD_COUNT, HEAD_COUNT)
+    else {
+        return Layout::Other;
+    };
+    let Found::Record(base) = find_record(
+        bytes,
+        Cursor { at: head.end },
+        BASE,
+        Chart::BASE_LEAST,
+        Chart::BASE_MOST,
+    ) else {
+        return Layout::Other;
+    };
+    let Found::Record(series) = find_record(
+        bytes,
+        Cursor { at: base.end },
+        SERIES,
+        0,
+        Chart::SERIES_MOST,
+    ) else {
+        return Layout::Other;
+    };
+    if series.end != bytes.len() {
+        return Layout::Other;
+    }
+    Layout::Form { head, base, series }
+}
+
+// The chart that the three records hold.
+fn chart_in(bytes: &[u8], head: Place, base: Place, series: Place) -> Chart
+    requires { ⌜ layoutOf (now bytes) ≡ layout.Form head base series ⌝ }
+    ensures { λ r. ⌜ r ≡ chartOf (heldIn (now (bytes .entry))) ⌝ }
+{
+    let mut base_words = [0i16; Chart::BASE_MOST];
+    fill(&mut base_words, bytes, base);
+    let mut series_words = [0i16; Chart::SERIES_MOST];
+    fill(&mut series_words, bytes, series);
+    Chart {
+        kind: nth_number(bytes, head, 0),
+        base: base_words,
+        base_len: base.count,
+        series: series_words,
+        series_len: series.count,
+        status: nth_number(bytes, head, 1),
+        open_verdict: nth_number(bytes, head, 2),
+    }
+}
+
+// The words of the record at a place, into the first places of an array. Answers how many there are.
+fn fill(places: &mut [i16], bytes: &[u8], place: Place) -> usize
+    requires { ⌜ (place .count ≤ length (now places)) × LiesWithin (now bytes) place ⌝ }
+    ensures { λ r. ⌜ Fills (now (bytes .entry)) place (now (places .entry)) (now (places .exit)) r ⌝ }
+{
+    let mut i: usize = 0;
+    while i < place.count {
+        places[i] = word_of(nth_number(bytes, place, i));
+        i += 1;
+    }
+    i
+}
+
+fn declined_read(number: u16) -> ReadChart
+    ensures { λ r. ⌜ IsRead (refused number) r ⌝ }
+{
+    ReadChart {
+        chart: zero_chart(),
+        answer: ReadAnswer::Refused(number),
+    }
+}

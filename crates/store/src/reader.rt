@@ -1,0 +1,67 @@
+// The reader of the stored form: a struct that holds a reference to the bytes, and a cursor in them. It is thin: it is taken apart for
+// `record_at`, which does the work on the slice and the cursor.
+use crate::numbers::number_at;
+ghost use mathlib.Core.Path.{_≡_};
+ghost use lib.ListN.{drop};
+ghost use Rattle.store.specs.Records.{recordIn};
+
+pub struct Cursor {
+    pub at: usize,
+}
+
+// The record kind of the record at a cursor, and how many numbers it has.
+pub enum Seen {
+    Record { kind: u16, count: usize },
+    Nothing,
+}
+
+pub struct Reader<'a> {
+    pub bytes: &'a [u8],
+    pub cursor: Cursor,
+}
+
+// The record at the cursor, through a reader: who calls this has plain parameters.
+pub fn next_at(bytes: &[u8], cursor: Cursor) -> Seen
+    ensures { λ r. ⌜ r ≡ recordIn (drop (cursor .at) (now (bytes .entry))) ⌝ }
+{
+    next_record(reader_on(bytes, cursor))
+}
+
+pub fn reader_on<'a>(bytes: &'a [u8], cursor: Cursor) -> Reader<'a>
+    ensures { λ r. ⌜ (r .bytes ≡ bytes .entry) × (r .cursor ≡ cursor) ⌝ }
+{
+    Reader { bytes, cursor }
+}
+
+pub fn next_record<'a>(reader: Reader<'a>) -> Seen
+    ensures { λ r. ⌜ r ≡ recordIn (drop (reader .entry .cursor .at) (now (reader .entry .bytes))) ⌝ }
+{
+    record_at(reader.bytes, reader.cursor)
+}
+
+// What stands at the cursor: a record whose length is that of a record kind and of numbers in two bytes each, and for which
+// there are bytes enough.
+pub fn record_at(bytes: &[u8], cursor: Cursor) -> Seen
+    ensures { λ r. ⌜ r ≡ recordIn (drop (cursor .at) (now (bytes .entry))) ⌝ }
+{
+    let at = cursor.at;
+    let size = bytes.len();
+    if size < at {
+        return Seen::Nothing;
+    }
+    let left = size - at;
+    if left < 4 {
+        return Seen::Nothing;
+    }
+    let length = number_at(bytes, at) as usize;
+    if (length < 2) | (length % 2 != 0) {
+        return Seen::Nothing;
+    }
+    if left - 2 < length {
+        return Seen::Nothing;
+    }
+    Seen::Record {
+        kind: number_at(bytes, at + 2),
+        count: (length - 2) / 2,
+    }
+}

@@ -1,0 +1,82 @@
+// Records: a length (the bytes after the length itself), a record kind, and numbers.
+use crate::numbers::number_at;
+use crate::numbers::put_number;
+use crate::numbers::put_words;
+use crate::reader::Cursor;
+use crate::reader::Seen;
+use crate::reader::next_at;
+ghost use mathlib.Core.Path.{_≡_};
+ghost use mathlib.Core.List.{map};
+ghost use Prim.Native.Nat.{_+_, _≤_, _<_};
+ghost use lib.ListN.{length, getD};
+ghost use Rattle.guide.specs.Sizes.{seriesMost};
+ghost use Rattle.guide.specs.Bytes.{numberOf};
+ghost use Rattle.guide.specs.StoredForm.{recordOf};
+ghost use Rattle.store.specs.Placed.{Placed};
+ghost use Rattle.store.specs.Records.{recordAt, numbersAt, LiesWithin};
+ghost use Rattle.store.specs.Store.{recordSize};
+
+// Where a record stands in the bytes: its first number, how many numbers it has, and the place after it.
+pub struct Place {
+    pub numbers: usize,
+    pub count: usize,
+    pub end: usize,
+}
+
+pub enum Found {
+    Record(Place),
+    Nothing,
+}
+
+// The bytes of a record of n numbers.
+pub fn record_size(n: usize) -> usize
+    requires { ⌜ n ≤ seriesMost ⌝ }
+    ensures { λ r. ⌜ r ≡ recordSize n ⌝ }
+{
+    4 + 2 * n
+}
+
+// A record of words. Answers the place after it.
+pub fn put_record(out: &mut [u8], at: usize, kind: u16, words: &[i16]) -> usize
+    requires { ⌜ (length (now words) ≤ seriesMost) × (at + recordSize (length (now words)) ≤ length (now out)) ⌝ }
+    ensures { λ r. ⌜ Placed (now (out .entry)) at (recordOf kind (map numberOf (now (words .entry)))) (now (out .exit)) r ⌝ }
+{
+    let length = 2 + 2 * words.len();
+    let second = put_number(out, at, length as u16);
+    let third = put_number(out, second, kind);
+    put_words(out, third, words)
+}
+
+// The record at the cursor, if it is of this kind and has this many numbers at least and at most.
+pub fn find_record(bytes: &[u8], cursor: Cursor, kind: u16, least: usize, most: usize) -> Found
+    ensures { λ r. ⌜ r ≡ recordAt kind least most (cursor .at) (now (bytes .entry)) ⌝ }
+{
+    let at = cursor.at;
+    let Seen::Record {
+        kind: seen_kind,
+        count,
+    } = next_at(bytes, cursor)
+    else {
+        return Found::Nothing;
+    };
+    if seen_kind != kind {
+        return Found::Nothing;
+    }
+    if (count < least) | (most < count) {
+        return Found::Nothing;
+    }
+    let numbers = at + 4;
+    Found::Record(Place {
+        numbers,
+        count,
+        end: numbers + 2 * count,
+    })
+}
+
+// Number i of the record at a place.
+pub fn nth_number(bytes: &[u8], place: Place, i: usize) -> u16
+    requires { ⌜ (i < place .count) × LiesWithin (now bytes) place ⌝ }
+    ensures { λ r. ⌜ r ≡ getD (numbersAt (now (bytes .entry)) place) i 0 ⌝ }
+{
+    number_at(bytes, place.numbers + 2 * i)
+}
