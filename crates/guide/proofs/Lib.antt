@@ -14,4 +14,5 @@ pub mod LastWords
 pub mod Verdict
 pub mod Soundness
 pub mod Machine
+pub mod Bytes
 pub mod Figures
