@@ -15,4 +15,5 @@ pub mod Verdict
 pub mod Soundness
 pub mod Machine
 pub mod Bytes
+pub mod Reading
 pub mod Figures
