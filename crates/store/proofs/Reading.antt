@@ -1,0 +1,208 @@
+-- Laws of reading: what a layout that was found tells (`laid-out`), the chart that three records hold (`chart-held`), and reading's contract in
+-- each of its cases (`read-no-form`, `read-unsound`, `read-done`).
+use mathlib.Core.Path.{_≡_, refl, sym, ap, ap₂, _∙_}
+use mathlib.Core.Bool.{Bool, true, false}
+use mathlib.Core.List.{List, [], _∷_, _++_, map}
+use Prim.Native.Nat.{ℕ, zero, suc, _+_, _*_, _-_, _<_, _≤_}
+use native.Mathlib.Omega.{arith}
+use lib.IntN.{ℤ, pos}
+use lib.ListN.{length, drop, getD, replicate, length-map}
+use lib.Seq.{drop-drop, drop-nil}
+use Rattle.guide.specs.Choice.{choose}
+use Rattle.guide.specs.Sizes.{baseMost, seriesMost}
+use Rattle.guide.specs.State.{State}
+use Rattle.guide.specs.Soundness.{sound}
+use Rattle.guide.specs.Bytes.{numbersIn, wordOf}
+use Rattle.guide.specs.Reading.{countIn, recordNumbers, afterRecord, isRecord, fromBase, fromSeries, headCount}
+use Rattle.guide.specs.Reading.{isForm, heldIn, taken, refused, reading}
+use Rattle.guide.proofs.Booleans.{by-test}
+use Rattle.guide.proofs.Reading.{FormFacts, form-facts}
+use Rattle.chart.specs.Pad.{pad}
+use Rattle.chart.specs.declared.Chart.{Chart}
+use Rattle.chart.specs.Chart.{stateOf, chartOf}
+use Rattle.chart.specs.Soundness.{soundChart}
+use Rattle.chart.proofs.SoundCharts.{sound-chart-facts}
+use Rattle.chart.proofs.State.{state-of-chart}
+use Rattle.chart.proofs.Runs.{sound-chart-of}
+use Rattle.store.specs.declared.records.Place.{Place}
+use Rattle.store.specs.declared.Layout.{Layout}
+use Rattle.store.specs.declared.Layout.the-variants as layout
+use Rattle.store.specs.declared.ReadAnswer.the-variants as read
+use Rattle.store.specs.declared.ReadChart.{ReadChart}
+use Rattle.store.specs.Records.{placeAt, headPlace, basePlace, seriesPlace, layoutOf, numbersAt, LiesWithin, Fills}
+use Rattle.store.specs.Store.{readSays, chartAfterReading, IsRead}
+use Rattle.store.proofs.RecordsIn.{record-facts, after-place, length-numbers-at}
+
+drop-zeros : (n size : ℕ) → drop n (replicate size (pos 0)) ≡ replicate (size - n) (pos 0)
+drop-zeros zero size = let none : size ≡ size - 0 = omega arith in ap (λ (k : ℕ). replicate k (pos 0)) none
+drop-zeros (suc n) zero = let none : 0 ≡ 0 - suc n = omega arith in ap (λ (k : ℕ). replicate k (pos 0)) none
+drop-zeros (suc n) (suc size) =
+    let one : size - n ≡ suc size - suc n = omega arith in
+    drop-zeros n size ∙ ap (λ (k : ℕ). replicate k (pos 0)) one
+
+-- ---- the record at a place
+
+module _ (at : ℕ) (bytes : List ℕ) where
+  place-within : isRecord (drop at bytes) ≡ true → LiesWithin bytes (placeAt at bytes)
+  unfolding placeAt countIn
+  place-within h = let facts = record-facts at bytes h in record { enough = omega (arith, facts) }
+
+  place-numbers : numbersAt bytes (placeAt at bytes) ≡ recordNumbers (drop at bytes)
+  unfolding numbersAt placeAt recordNumbers
+  place-numbers = ap (numbersIn (countIn (drop at bytes))) (sym (drop-drop 4 at bytes))
+
+-- ---- the places of the three records
+
+base-from : (bytes : List ℕ) → drop (headPlace bytes .end) bytes ≡ fromBase bytes
+unfolding headPlace fromBase
+base-from bytes = after-place 0 bytes
+
+series-from : (bytes : List ℕ) → drop (basePlace bytes .end) bytes ≡ fromSeries bytes
+unfolding basePlace fromSeries
+series-from bytes = after-place (headPlace bytes .end) bytes ∙ ap afterRecord (base-from bytes)
+
+-- a layout that was found is that of a form
+pub record Laid (bytes : List ℕ) (head base series : Place) : Type 0 where
+  pub is-form : isForm bytes ≡ true
+  pub head-is : head ≡ headPlace bytes
+  pub base-is : base ≡ basePlace bytes
+  pub series-is : series ≡ seriesPlace bytes
+
+laid-by : (form : Bool) (h b s head base series : Place) → choose form (layout.Form h b s) layout.Other ≡ layout.Form head base series
+    → (form ≡ true) × ((head ≡ h) × ((base ≡ b) × (series ≡ s)))
+laid-by true h b s head base series e = (refl, (cc, (cc, cc)))
+laid-by false h b s head base series e = let z : _≡_ {A = ℕ} 0 1 = cc in absurd (omega arith)
+
+pub laid-out : (bytes : List ℕ) (head base series : Place) → layoutOf bytes ≡ layout.Form head base series → Laid bytes head base series
+unfolding layoutOf
+laid-out bytes head base series e =
+    let facts = laid-by (isForm bytes) (headPlace bytes) (basePlace bytes) (seriesPlace bytes) head base series e in
+    record { is-form = facts .0; head-is = facts .1 .0; base-is = facts .1 .1 .0; series-is = facts .1 .1 .1 }
+
+module _ (bytes : List ℕ) (head base series : Place) (l : Laid bytes head base series) where
+  facts : FormFacts bytes
+  facts = form-facts bytes (l .is-form)
+
+  -- each record lies within the bytes, and has as many numbers as it may
+  pub head-within : LiesWithin bytes head
+  unfolding headPlace
+  head-within = rw (l .head-is) (place-within 0 bytes (facts .head .is-record))
+
+  pub head-count : head .count ≡ headCount
+  unfolding headPlace placeAt
+  head-count = rw (l .head-is) (omega (arith, facts .head .least-count, facts .head .most-count))
+
+  pub base-within : LiesWithin bytes base
+  unfolding basePlace
+  base-within =
+      rw (l .base-is) (place-within (headPlace bytes .end) bytes (ap isRecord (base-from bytes) ∙ facts .base .is-record))
+
+  pub base-few : base .count ≤ baseMost
+  unfolding basePlace placeAt
+  base-few = rw (l .base-is, base-from bytes) (facts .base .most-count)
+
+  pub series-within : LiesWithin bytes series
+  unfolding seriesPlace
+  series-within =
+      rw (l .series-is) (place-within (basePlace bytes .end) bytes (ap isRecord (series-from bytes) ∙ facts .series .is-record))
+
+  pub series-few : series .count ≤ seriesMost
+  unfolding seriesPlace placeAt
+  series-few = rw (l .series-is, series-from bytes) (facts .series .most-count)
+
+  -- the numbers of each
+  head-numbers : numbersAt bytes head ≡ recordNumbers bytes
+  unfolding headPlace
+  head-numbers = ap (numbersAt bytes) (l .head-is) ∙ place-numbers 0 bytes
+
+  base-numbers : numbersAt bytes base ≡ recordNumbers (fromBase bytes)
+  unfolding basePlace
+  base-numbers =
+      ap (numbersAt bytes) (l .base-is) ∙ (place-numbers (headPlace bytes .end) bytes ∙ ap recordNumbers (base-from bytes))
+
+  series-numbers : numbersAt bytes series ≡ recordNumbers (fromSeries bytes)
+  unfolding seriesPlace
+  series-numbers =
+      ap (numbersAt bytes) (l .series-is) ∙ (place-numbers (basePlace bytes .end) bytes ∙ ap recordNumbers (series-from bytes))
+
+  -- ---- the chart that they hold
+
+  words-count : (p : Place) (ws : List ℤ) → map wordOf (numbersAt bytes p) ≡ ws → p .count ≡ length ws
+  words-count p ws is = sym (length-numbers-at bytes p) ∙ (sym (length-map (numbersAt bytes p) wordOf) ∙ ap length is)
+
+  -- the words of a record in an array of zeros
+  words-padded : (p : Place) (size : ℕ) (places ws : List ℤ) (n : ℕ) → Fills bytes p (replicate size (pos 0)) places n
+      → map wordOf (numbersAt bytes p) ≡ ws → places ≡ pad (pos 0) size ws
+  unfolding pad
+  words-padded p size places ws n filled is =
+      let unused : drop (p .count) (replicate size (pos 0)) ≡ replicate (size - length ws) (pos 0) =
+      drop-zeros (p .count) size ∙ ap (λ (k : ℕ). replicate (size - k) (pos 0)) (words-count p ws is) in
+      filled .places ∙ ap₂ (λ (x y : List ℤ). x ++ y) is unused
+
+  pub chart-held : (kind status verdict n m : ℕ) (base-words series-words : List ℤ)
+      → Fills bytes base (replicate baseMost (pos 0)) base-words n
+      → Fills bytes series (replicate seriesMost (pos 0)) series-words m
+      → kind ≡ getD (numbersAt bytes head) 0 0 → status ≡ getD (numbersAt bytes head) 1 0 → verdict ≡ getD (numbersAt bytes head) 2 0
+      → record {
+        kind = kind;
+        base = base-words;
+        «base_len» = base .count;
+        series = series-words;
+        «series_len» = series .count;
+        status = status;
+        «open_verdict» = verdict;
+      }
+      ≡ chartOf (heldIn bytes)
+  unfolding chartOf heldIn
+  chart-held kind status verdict n m base-words series-words base-filled series-filled kind-is status-is verdict-is =
+      let base-words-are = ap (map wordOf) base-numbers in
+      let series-words-are = ap (map wordOf) series-numbers in
+      λ i. record {
+        kind = (kind-is ∙ ap (λ (l : List ℕ). getD l 0 0) head-numbers) i;
+        base = words-padded base baseMost base-words _ n base-filled base-words-are i;
+        «base_len» = words-count base _ base-words-are i;
+        series = words-padded series seriesMost series-words _ m series-filled series-words-are i;
+        «series_len» = words-count series _ series-words-are i;
+        status = (status-is ∙ ap (λ (l : List ℕ). getD l 1 0) head-numbers) i;
+        «open_verdict» = (verdict-is ∙ ap (λ (l : List ℕ). getD l 2 0) head-numbers) i;
+      }
+
+-- ---- reading, by its cases
+
+-- no layout is found only where there is no form
+no-layout : (form : Bool) (h b s : Place) → choose form (layout.Form h b s) layout.Other ≡ layout.Other → form ≡ false
+no-layout true h b s e = let z : _≡_ {A = ℕ} 0 1 = cc in absurd (omega arith)
+no-layout false h b s e = refl
+
+pub read-no-form : (bytes : List ℕ) → layoutOf bytes ≡ layout.Other → reading bytes ≡ refused 13
+unfolding layoutOf reading
+read-no-form bytes e = rw (no-layout (isForm bytes) (headPlace bytes) (basePlace bytes) (seriesPlace bytes) e)
+
+-- the chart that stands for a state is sound if the state is, and only then
+state-sound : (s : State) → soundChart (chartOf s) ≡ true → sound s ≡ true
+state-sound s h = ap sound (sym (state-of-chart s)) ∙ sound-chart-facts (chartOf s) h .state
+
+state-unsound : (s : State) → soundChart (chartOf s) ≡ false → sound s ≡ false
+state-unsound s h =
+    by-test (sound s)
+    (λ t. absurd (let is = sound-chart-of s t in let z : _≡_ {A = ℕ} 0 1 = cc in omega arith))
+    (λ t. t)
+
+module _ (bytes : List ℕ) (form : isForm bytes ≡ true) (c : Chart) (is : c ≡ chartOf (heldIn bytes)) where
+  pub read-unsound : soundChart c ≡ false → reading bytes ≡ refused 14
+  unfolding reading
+  read-unsound h = rw (form, state-unsound (heldIn bytes) (ap soundChart (sym is) ∙ h))
+
+  pub read-done : soundChart c ≡ true → IsRead (reading bytes) (record { chart = c; answer = read.Done })
+  unfolding readSays chartAfterReading reading
+  read-done h =
+      let held = heldIn bytes in
+      let done : reading bytes ≡ taken held = rw (form, state-sound held (ap soundChart (sym is) ∙ h)) in
+      record {
+        chart = is ∙ ap chartAfterReading (sym done);
+        says = ap (λ (x : Chart). taken (stateOf x)) is ∙ (ap taken (state-of-chart held) ∙ sym done);
+      }
+
+-- an answer that was given for bytes that are declined by this number
+pub read-declined : (bytes : List ℕ) (n : ℕ) (r : ReadChart) → reading bytes ≡ refused n → IsRead (refused n) r → IsRead (reading bytes) r
+read-declined bytes n r e is = rw e is
