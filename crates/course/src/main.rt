@@ -1,10 +1,13 @@
-// Runs the figures of the course about words, charts and the calls on a chart, with cases at the edges of the paper's rules, and prints
+// Runs the figures of the course about words, charts, the calls on a chart and stored forms, with cases at the edges of the paper's rules, and prints
 // each answer. What it prints is compared with the file `stdout`. No contract can say what is printed; a function here answers the word
 // or the chart that it prints, and one that runs several figures the chart that later figures go on from, or the last.
+mod forms;
 mod show;
+mod stored;
 
 use chart::Built;
 use chart::Chart;
+use forms::stored_forms;
 use libc::STDOUT_FILENO;
 use show::show_build;
 use show::show_chart;
@@ -63,6 +66,7 @@ fn main() {
     let free = full_refusals(full);
     renewals(a, f, free);
     handed_in(a, one, side);
+    stored_forms(a);
 }
 
 // The fifteen words: seven below the mean, seven above it, and the mean.

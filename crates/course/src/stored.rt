@@ -13,10 +13,10 @@ ghost use mathlib.Core.Path.{_≡_};
 ghost use Prim.Native.Nat.{_+_, _-_, _≤_, _<_};
 ghost use lib.ListN.{length, take};
 ghost use Rattle.guide.specs.Bytes.{bytesOf};
-ghost use Rattle.guide.specs.Reading.{reading};
 ghost use Rattle.chart.specs.Pad.{pad};
-ghost use Rattle.store.specs.Store.{Writes, IsRead, Returns};
-ghost use Rattle.course.specs.Forms.{plainForm, exchangedIn};
+ghost use Rattle.store.specs.Placed.{Placed};
+ghost use Rattle.store.specs.Store.{Writes, Returns};
+ghost use Rattle.course.specs.Forms.{Reads, plainForm, orderedForm, aroundForm, exchangedIn};
 
 // Writes the chart into the lent bytes, and prints the answer and every lent byte.
 pub fn show_write(text: &[u8], chart: Chart, lent: &mut [u8]) -> WriteAnswer
@@ -82,7 +82,7 @@ fn show_answer(r: ReadChart) -> ReadChart
 // Reads the form of these numbers.
 pub fn show_form(text: &[u8], numbers: &[u16]) -> ReadChart
     requires { ⌜ length (now numbers) ≤ 512 ⌝ }
-    ensures { λ r. ⌜ IsRead (reading (bytesOf (now (numbers .entry)))) r ⌝ }
+    ensures { λ r. ⌜ Reads (now (numbers .entry)) r ⌝ }
 {
     io::write_all(STDOUT_FILENO, text);
     let bytes = encoded(numbers);
@@ -144,7 +144,7 @@ pub fn show_sizes(text: &[u8], form: &[u16], sizes: &[u8]) -> usize
 // Reads a form of n base words and m series words, all 1000.
 pub fn show_counts(n: usize, m: usize) -> ReadChart
     requires { ⌜ n + m ≤ 400 ⌝ }
-    ensures { λ r. ⌜ IsRead (reading (bytesOf (take (9 + n + m) (plainForm n m)))) r ⌝ }
+    ensures { λ r. ⌜ Reads (take (9 + n + m) (plainForm n m)) r ⌝ }
 {
     io::write_all(STDOUT_FILENO, b"base of ");
     show_decimal(n);
@@ -159,23 +159,31 @@ fn plain_form(n: usize, m: usize) -> [u16; 512]
     requires { ⌜ n + m ≤ 400 ⌝ }
     ensures { λ r. ⌜ r ≡ plainForm n m ⌝ }
 {
-    let mut form = [1000u16; 512];
-    form[0] = 8;
-    form[1] = 1;
-    form[2] = 2;
-    form[3] = 0;
-    form[4] = 0;
-    form[5] = (2 + 2 * n) as u16;
-    form[6] = 2;
-    form[7 + n] = (2 + 2 * m) as u16;
-    form[8 + n] = 3;
+    let mut form = [1000; 512];
+    put_numbers(&mut form, 0, &[8, 1, 2, 0, 0]);
+    put_numbers(&mut form, 5, &[(2 + 2 * n) as u16, 2]);
+    put_numbers(&mut form, 7 + n, &[(2 + 2 * m) as u16, 3]);
     form
+}
+
+// Reads the first n numbers of a head, a base of ten words and a series of none, each put from its place on, and of a second series after
+// them.
+pub fn show_order(text: &[u8], head: usize, base: usize, series: usize, n: usize) -> ReadChart
+    requires { ⌜ (head ≤ 16) × ((base ≤ 19) × ((series ≤ 19) × (n ≤ 21))) ⌝ }
+    ensures { λ r. ⌜ Reads (take n (orderedForm head base series)) r ⌝ }
+{
+    let mut form = [1000; 21];
+    put_numbers(&mut form, 19, &[2, 3]);
+    put_numbers(&mut form, head, &[8, 1, 2, 0, 0]);
+    put_numbers(&mut form, base, &[22, 2]);
+    put_numbers(&mut form, series, &[2, 3]);
+    show_form(text, &form[..n])
 }
 
 // Reads the form of the first 24 numbers, with the two bytes exchanged in each of those from one place to another.
 pub fn show_exchanged(text: &[u8], form: [u16; 26], from: usize, to: usize) -> ReadChart
     requires { ⌜ (from ≤ to) × (to ≤ 26) ⌝ }
-    ensures { λ r. ⌜ IsRead (reading (bytesOf (take 24 (exchangedIn (to - from) from form)))) r ⌝ }
+    ensures { λ r. ⌜ Reads (take 24 (exchangedIn (to - from) from form)) r ⌝ }
 {
     let other = exchanged(form, from, to);
     show_form(text, &other[..24])
@@ -193,4 +201,28 @@ fn exchanged(form: [u16; 26], from: usize, to: usize) -> [u16; 26]
         i += 1;
     }
     other
+}
+
+// The numbers of the form of fifteen words, seven low, seven high and one between them, with no series. The last two are not of the form.
+pub fn form_around(kind: u16, low: u16, high: u16, mean: u16) -> [u16; 26]
+    ensures { λ r. ⌜ r ≡ aroundForm kind low high mean ⌝ }
+{
+    let mut form = [low; 26];
+    put_numbers(&mut form, 0, &[8, 1, kind, 0, 0, 32, 2]);
+    put_numbers(&mut form, 14, &[high; 7]);
+    put_numbers(&mut form, 21, &[mean, 2, 3, 0, 0]);
+    form
+}
+
+// Puts numbers in the place of others. Answers the place after them.
+pub fn put_numbers(form: &mut [u16], at: usize, numbers: &[u16]) -> usize
+    requires { ⌜ at + length (now numbers) ≤ length (now form) ⌝ }
+    ensures { λ r. ⌜ Placed (now (form .entry)) at (now (numbers .entry)) (now (form .exit)) r ⌝ }
+{
+    let mut i: usize = 0;
+    while i < numbers.len() {
+        form[at + i] = numbers[i];
+        i += 1;
+    }
+    at + i
 }
