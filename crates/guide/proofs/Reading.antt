@@ -1,7 +1,8 @@
 -- The stored form, there and back. A record's bytes are read as that record (`record-*`), and bytes that are a record are its bytes
 -- (`record-back`); so it is of the three (`form-is`, `form-held`, `form-back`). Then: a sound state that is written is read as the same state
 -- (`read-stored`), bytes that are read are those that writing the state gives (`stored-read`), two sound states never have the same
--- bytes (`one-form`), 13 is answered of no bytes that are a state's form (`no-form`), and lists of calls from reading are sound (`read-run`).
+-- bytes (`one-form`), 13 is answered of bytes that are no form of a state with as many words as a chart has, and of no others (`thirteen`,
+-- `no-form`), and lists of calls from reading are sound (`read-run`).
 use mathlib.Core.Path.{_≡_, refl, sym, ap, ap₂, _∙_}
 use mathlib.Core.Bool.{Bool, true, false, _&&_}
 use mathlib.Core.List.{List, [], _∷_, _++_, map, append-assoc, append-nil}
@@ -345,13 +346,36 @@ not-thirteen true true held t x = let z : _≡_ {A = ℕ} 0 1 = cc in omega arit
 not-thirteen true false held t x = let z : _≡_ {A = ℕ} 14 13 = cc in omega arith
 not-thirteen false whole held t x = let z : _≡_ {A = ℕ} 0 1 = cc in omega arith
 
--- 13 is answered of no bytes that are a state's form with as many words as a chart has, whatever the words and the other numbers are. Of
--- all other bytes it is answered, since bytes that are a form are that of the state that they hold (`form-back`)
+-- 13 is answered of no bytes that are the form of a state with as many words as a chart has, whatever the words and the other numbers are
 pub no-form : (bytes : List ℕ) → reading bytes ≡ refused 13
     → (s : State) → baseLeast ≤ length (s .base) → length (s .base) ≤ baseMost → length (s .series) ≤ seriesMost → storedForm s ≡ bytes → ⊥
 unfolding reading
 no-form bytes e s least most few same =
     not-thirteen (isForm bytes) (sound (heldIn bytes)) (heldIn bytes) (ap isForm (sym same) ∙ form-is s least most few) e
+
+-- the numbers of words that bytes hold
+words-held : (bytes : List ℕ) → length (map wordOf (recordNumbers bytes)) ≡ countIn bytes
+unfolding recordNumbers
+words-held bytes = length-map (recordNumbers bytes) wordOf ∙ length-numbers (countIn bytes) (drop 4 bytes)
+
+-- .. and of all other bytes it is answered
+pub thirteen : (bytes : List ℕ) → AreBytes bytes
+    → ((s : State) → baseLeast ≤ length (s .base) → length (s .base) ≤ baseMost → length (s .series) ≤ seriesMost → storedForm s ≡ bytes → ⊥)
+    → reading bytes ≡ refused 13
+unfolding reading heldIn
+thirteen bytes are none =
+    by-test (isForm bytes)
+    (λ t.
+    let facts = form-facts bytes t in
+    let base = words-held (fromBase bytes) in
+    let series = words-held (fromSeries bytes) in
+    absurd
+    (none (heldIn bytes)
+    (omega (arith, base, facts .base .least-count))
+    (omega (arith, base, facts .base .most-count))
+    (omega (arith, series, facts .series .most-count))
+    (form-back bytes are t)))
+    (λ t. rw t)
 
 -- every list of calls on a chart that reading gives
 pub read-run : (bytes : List ℕ) (s : State) → reading bytes ≡ taken s → (calls : List Call) → SoundRun s calls

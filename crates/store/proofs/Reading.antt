@@ -29,7 +29,7 @@ use Rattle.store.specs.declared.Layout.{Layout}
 use Rattle.store.specs.declared.Layout.the-variants as layout
 use Rattle.store.specs.declared.ReadAnswer.the-variants as read
 use Rattle.store.specs.declared.ReadChart.{ReadChart}
-use Rattle.store.specs.Records.{placeAt, headPlace, basePlace, seriesPlace, layoutOf, numbersAt, LiesWithin, Fills}
+use Rattle.store.specs.Records.{placeAt, headPlace, basePlace, seriesPlace, layoutOf, numbersAt, LiesWithin, filledFrom}
 use Rattle.store.specs.Store.{readSays, chartAfterReading, IsRead}
 use Rattle.store.proofs.RecordsIn.{record-facts, after-place, length-numbers-at}
 
@@ -131,17 +131,17 @@ module _ (bytes : List ℕ) (head base series : Place) (l : Laid bytes head base
   words-count p ws is = sym (length-numbers-at bytes p) ∙ (sym (length-map (numbersAt bytes p) wordOf) ∙ ap length is)
 
   -- the words of a record in an array of zeros
-  words-padded : (p : Place) (size : ℕ) (places ws : List ℤ) (n : ℕ) → Fills bytes p (replicate size (pos 0)) places n
+  words-padded : (p : Place) (size : ℕ) (places ws : List ℤ) → places ≡ filledFrom bytes p (replicate size (pos 0))
       → map wordOf (numbersAt bytes p) ≡ ws → places ≡ pad (pos 0) size ws
-  unfolding pad
-  words-padded p size places ws n filled is =
+  unfolding pad filledFrom
+  words-padded p size places ws filled is =
       let unused : drop (p .count) (replicate size (pos 0)) ≡ replicate (size - length ws) (pos 0) =
       drop-zeros (p .count) size ∙ ap (λ (k : ℕ). replicate (size - k) (pos 0)) (words-count p ws is) in
-      filled .places ∙ ap₂ (λ (x y : List ℤ). x ++ y) is unused
+      filled ∙ ap₂ (λ (x y : List ℤ). x ++ y) is unused
 
-  pub chart-held : (kind status verdict n m : ℕ) (base-words series-words : List ℤ)
-      → Fills bytes base (replicate baseMost (pos 0)) base-words n
-      → Fills bytes series (replicate seriesMost (pos 0)) series-words m
+  pub chart-held : (kind status verdict : ℕ) (base-words series-words : List ℤ)
+      → base-words ≡ filledFrom bytes base (replicate baseMost (pos 0))
+      → series-words ≡ filledFrom bytes series (replicate seriesMost (pos 0))
       → kind ≡ getD (numbersAt bytes head) 0 0 → status ≡ getD (numbersAt bytes head) 1 0 → verdict ≡ getD (numbersAt bytes head) 2 0
       → record {
         kind = kind;
@@ -154,14 +154,14 @@ module _ (bytes : List ℕ) (head base series : Place) (l : Laid bytes head base
       }
       ≡ chartOf (heldIn bytes)
   unfolding chartOf heldIn
-  chart-held kind status verdict n m base-words series-words base-filled series-filled kind-is status-is verdict-is =
+  chart-held kind status verdict base-words series-words base-filled series-filled kind-is status-is verdict-is =
       let base-words-are = ap (map wordOf) base-numbers in
       let series-words-are = ap (map wordOf) series-numbers in
       λ i. record {
         kind = (kind-is ∙ ap (λ (l : List ℕ). getD l 0 0) head-numbers) i;
-        base = words-padded base baseMost base-words _ n base-filled base-words-are i;
+        base = words-padded base baseMost base-words _ base-filled base-words-are i;
         «base_len» = words-count base _ base-words-are i;
-        series = words-padded series seriesMost series-words _ m series-filled series-words-are i;
+        series = words-padded series seriesMost series-words _ series-filled series-words-are i;
         «series_len» = words-count series _ series-words-are i;
         status = (status-is ∙ ap (λ (l : List ℕ). getD l 1 0) head-numbers) i;
         «open_verdict» = (verdict-is ∙ ap (λ (l : List ℕ). getD l 2 0) head-numbers) i;

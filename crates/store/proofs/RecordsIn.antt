@@ -158,7 +158,7 @@ module _ (kind least most at : ℕ) (bytes : List ℕ) where
         not-found (λ s. no-count n least most h (omega (arith, s .least-count)) (omega (arith, s .most-count)))
 
     pub record-found : k ≡ kind → (ltb n least || ltb most n) ≡ false
-        → found.Record (record { numbers = at + 4; count = n; end = at + 4 + 2 * n }) ≡ recordAt kind least most at bytes
+        → found.Record (record { first = at + 4; count = n; end = at + 4 + 2 * n }) ≡ recordAt kind least most at bytes
     unfolding recordAt placeAt countIn
     record-found same-kind h =
         let there = record-seen at bytes k n e in
@@ -173,7 +173,7 @@ module _ (kind least most at : ℕ) (bytes : List ℕ) where
           most-count = rw same at (counts .1);
         } in
         rw (starts-from kind least most (drop at bytes) starts)
-        (λ i. found.Record (record { numbers = at + 4; count = same i; end = end i }))
+        (λ i. found.Record (record { first = at + 4; count = same i; end = end i }))
 
   -- what its answer tells
   nothing-found : {r : Found} → r ≡ recordAt kind least most at bytes → r ≡ found.Nothing
@@ -238,30 +238,23 @@ module _ (bytes : List ℕ) where
             let there = place-found 3 0 seriesMost (base .end) bytes series at-series in
             (rw series-bytes at (there .0), there .1)
 
-        -- the series record ends within the bytes, and so many are left over
-        ends-within : series .end ≤ length bytes
-        unfolding placeAt
-        ends-within =
-            let there = place-found 3 0 seriesMost (base .end) bytes series at-series in
-            let starts = starts-facts 3 0 seriesMost (drop (base .end) bytes) (there .0) in
-            rw (there .1) (record-facts (base .end) bytes (starts .is-record) .enough)
-
+        -- so many bytes are left over after it
         left-over : length (afterRecord (fromSeries bytes)) ≡ length bytes - series .end
         left-over =
             let rest : drop (series .end) bytes ≡ afterRecord (fromSeries bytes) =
             ap (λ (p : Place). drop (p .end) bytes) (series-there .1) ∙ (after-place (base .end) bytes ∙ ap afterRecord series-bytes) in
             sym (ap length rest) ∙ length-drop (series .end) bytes
 
-        pub bytes-left : (series .end ≡ length bytes → ⊥) → layout.Other ≡ layoutOf bytes
+        pub bytes-left : series .end < length bytes → layout.Other ≡ layoutOf bytes
         unfolding layoutOf isForm
-        bytes-left other =
+        bytes-left some-left =
             let n = length (afterRecord (fromSeries bytes)) in
-            let some : eqb n 0 ≡ false = ne-eqb n 0 (λ e. other (omega (arith, left-over, ends-within))) in
+            let some : eqb n 0 ≡ false = ne-eqb n 0 (λ e. omega (arith, left-over)) in
             rw (head-there .0, base-there .0, series-there .0, some)
 
-        pub form-there : series .end ≡ length bytes → layout.Form head base series ≡ layoutOf bytes
+        pub form-there : length bytes ≤ series .end → layout.Form head base series ≡ layoutOf bytes
         unfolding layoutOf isForm headPlace basePlace seriesPlace
-        form-there e =
+        form-there none-left =
             let n = length (afterRecord (fromSeries bytes)) in
             let none : eqb n 0 ≡ true = eq-eqb n 0 (omega (arith, left-over)) in
             let head-is : head ≡ headPlace bytes = head-there .1 in
@@ -274,14 +267,14 @@ module _ (bytes : List ℕ) where
 
 pub length-numbers-at : (bytes : List ℕ) (p : Place) → length (numbersAt bytes p) ≡ p .count
 unfolding numbersAt
-length-numbers-at bytes p = length-numbers (p .count) (drop (p .numbers) bytes)
+length-numbers-at bytes p = length-numbers (p .count) (drop (p .first) bytes)
 
 -- number i, as `nth_number` reads it
-pub number-of-place : (bytes : List ℕ) (p : Place) (i r : ℕ) → i < p .count → r ≡ numberIn (drop (p .numbers + 2 * i) bytes)
+pub number-of-place : (bytes : List ℕ) (p : Place) (i r : ℕ) → i < p .count → r ≡ numberIn (drop (p .first + 2 * i) bytes)
     → r ≡ getD (numbersAt bytes p) i 0
 unfolding numbersAt
 number-of-place bytes p i r h e =
-    e ∙ (ap numberIn (sym (drop-drop (2 * i) (p .numbers) bytes)) ∙ sym (number-at (p .count) i (drop (p .numbers) bytes) h))
+    e ∙ (ap numberIn (sym (drop-drop (2 * i) (p .first) bytes)) ∙ sym (number-at (p .count) i (drop (p .first) bytes) h))
 
 -- the words of the first i numbers are in the first i places: of one more, by a turn of `fill`
 pub filled-more : (ns : List ℕ) (i : ℕ) (before : List ℤ) {places : List ℤ} {w : ℤ} → i < length ns → i < length before

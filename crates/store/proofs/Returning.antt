@@ -1,5 +1,5 @@
 -- Laws of reading what was written: the same chart comes (`returned`), unless writing declines (`not-written`). Two sound charts never have
--- the same bytes (`one-chart`), the bytes that a chart is read from are those that writing it gives (`written-again`), and lists of calls on
+-- the same bytes (`one-chart`), writing a chart that was read gives the bytes that it was read from (`written-again`), and lists of calls on
 -- it are the machine's (`read-runs`).
 use mathlib.Core.Path.{_≡_, refl, sym, ap, _∙_}
 use mathlib.Core.Bool.{Bool, true, false, _&&_}
@@ -21,7 +21,7 @@ use Rattle.chart.specs.declared.Chart.{Chart}
 use Rattle.chart.specs.Chart.{stateOf, chartOf}
 use Rattle.chart.specs.Soundness.{soundChart}
 use Rattle.chart.proofs.State.{Given, given, state-of-chart, chart-of-state}
-use Rattle.chart.proofs.Runs.{Runs, sound-runs}
+use Rattle.chart.proofs.Runs.{Runs, sound-chart-of, sound-runs}
 use Rattle.store.specs.Store.{writeSays, answerToWrite, bufferAfterWrite, Writes, readSays, chartAfterReading, IsRead}
 use Rattle.store.specs.Store.{answerToReturn, chartReturned, Returns}
 use Rattle.store.specs.declared.ReadChart.{ReadChart}
@@ -90,16 +90,29 @@ not-written c before after n w r is =
     let facts = refused-by (soundChart c) (hasRoom (stateOf c) before) size n (stateOf c) (w .says) in
     record { chart = rw (facts .1) (is .chart); says = is .says ∙ facts .0; buffer = w .buffer }
 
--- ---- the round trip, of charts. That the arrays are as long as the chart's type says is all that is asked beside soundness
+-- ---- the round trip, of charts. `Given` says that a chart is sound and that its arrays are as long as its type says
 
--- a sound chart's bytes are read as that chart
-pub read-written : (c : Chart) → Given c → (r : ReadChart) → IsRead (reading (storedForm (stateOf c))) r → r .chart ≡ c
+-- reading a sound chart's stored form gives that chart, and is not declined
+pub read-written : (c : Chart) → Given c → (r : ReadChart) → IsRead (reading (storedForm (stateOf c))) r
+    → (r .chart ≡ c) × (readSays (r .chart) (r .answer) ≡ taken (stateOf c))
 unfolding chartAfterReading
-read-written c g r is = is .chart ∙ (ap chartAfterReading (read-stored (stateOf c) (g .facts .state)) ∙ chart-of-state c g)
+read-written c g r is =
+    let read = read-stored (stateOf c) (g .facts .state) in
+    (is .chart ∙ (ap chartAfterReading read ∙ chart-of-state c g), is .says ∙ read)
 
--- bytes that are read are those that writing the chart gives
-pub written-again : (bytes : List ℕ) (s : State) → AreBytes bytes → reading bytes ≡ taken s → storedForm (stateOf (chartOf s)) ≡ bytes
-written-again bytes s are e = ap storedForm (state-of-chart s) ∙ stored-read bytes s are e
+-- a chart that was read is sound, so writing it is not declined with 14; and where it has room, it writes the bytes that were read
+module _ (bytes : List ℕ) (are : AreBytes bytes) (s : State) (e : reading bytes ≡ taken s) (r : ReadChart) (is : IsRead (reading bytes) r) where
+  chart-is : r .chart ≡ chartOf s
+  unfolding chartAfterReading
+  chart-is = is .chart ∙ ap chartAfterReading e
+
+  pub read-is-sound : soundChart (r .chart) ≡ true
+  read-is-sound = ap soundChart chart-is ∙ sound-chart-of s (read-sound bytes s e)
+
+  pub written-again : (before after : List ℕ) (n : ℕ) → Writes (r .chart) before after (Done n) → take n after ≡ bytes
+  written-again before after n w =
+      written-form (r .chart) before after n w
+      ∙ (ap (λ (c : Chart). storedForm (stateOf c)) chart-is ∙ (ap storedForm (state-of-chart s) ∙ stored-read bytes s are e))
 
 -- two sound charts that have the same bytes are one
 pub one-chart : (c d : Chart) → Given c → Given d → storedForm (stateOf c) ≡ storedForm (stateOf d) → c ≡ d

@@ -1,5 +1,4 @@
 -- What the functions that look for records give, by the definitions of `guide/specs/Reading` at the bytes from a byte on.
-use mathlib.Core.Path.{_≡_}
 use mathlib.Core.List.{List, _++_, map}
 use Prim.Native.Nat.{ℕ, _+_, _*_, _≤_}
 use lib.ListN.{length, drop}
@@ -19,11 +18,11 @@ use Rattle.store.specs.declared.Layout.the-variants as layout
 unfoldable pub recordIn : List ℕ → Seen
 recordIn bytes = choose (isRecord bytes) (seen.Record (recordKindIn bytes) (countIn bytes)) seen.Nothing
 
--- where the record is that begins at a byte: its numbers come after its length and its record kind
+-- where the record is that begins at a byte: its first number comes after its length and its record kind
 unfoldable pub placeAt : ℕ → List ℕ → Place
 placeAt at bytes =
     let there = drop at bytes in
-    record { numbers = at + 4; count = countIn there; end = at + (2 + lengthIn there) }
+    record { first = at + 4; count = countIn there; end = at + (2 + lengthIn there) }
 
 -- the record that begins at a byte, if it is of this record kind and its numbers are at least `least` and at most `most`
 unfoldable pub recordAt : (recordKind least most : ℕ) → ℕ → List ℕ → Found
@@ -45,13 +44,12 @@ layoutOf bytes = choose (isForm bytes) (layout.Form (headPlace bytes) (basePlace
 
 -- the numbers of the record at a place
 unfoldable pub numbersAt : List ℕ → Place → List ℕ
-numbersAt bytes p = numbersIn (p .count) (drop (p .numbers) bytes)
+numbersAt bytes p = numbersIn (p .count) (drop (p .first) bytes)
 
 -- they lie within the bytes
 pub record LiesWithin (bytes : List ℕ) (p : Place) : Type 0 where
-  pub enough : p .numbers + 2 * p .count ≤ length bytes
+  pub enough : p .first + 2 * p .count ≤ length bytes
 
--- the words of the record go to the first places of an array, and the places after them stay
-pub record Fills (bytes : List ℕ) (p : Place) (before after : List ℤ) (count : ℕ) : Type 0 where
-  pub places : after ≡ map wordOf (numbersAt bytes p) ++ drop (p .count) before
-  pub number : count ≡ p .count
+-- an array with the words of the record in its first places, and in the places after them what was there
+unfoldable pub filledFrom : List ℕ → Place → List ℤ → List ℤ
+filledFrom bytes p before = map wordOf (numbersAt bytes p) ++ drop (p .count) before

@@ -1,10 +1,10 @@
 // The stored form of a chart: document 01, "Stored form". Three records; every number little-endian in two bytes, words in two's
-// complement, all by arithmetic on bytes, so that the machine's own order plays no part.
+// complement, all by arithmetic, so that the machine's own order of bytes plays no part.
 //
 // Writing declines, in this order: 14 a chart that is not sound, 15 a buffer shorter than the stored form; either leaves the buffer
 // as it was. Reading declines, in this order: 13 bytes that are not the three records, before any content is looked at, 14 a chart that is
 // not sound; either gives the chart of zeros.
-pub mod numbers;
+mod numbers;
 mod reader;
 mod records;
 
@@ -28,7 +28,7 @@ ghost use Rattle.guide.specs.Reading.{heldIn, reading, refused};
 ghost use Rattle.chart.specs.Chart.{stateOf, chartOf};
 ghost use Rattle.chart.specs.Soundness.{soundChart};
 ghost use Rattle.store.specs.Placed.{Placed};
-ghost use Rattle.store.specs.Records.{layoutOf, LiesWithin, Fills};
+ghost use Rattle.store.specs.Records.{layoutOf, LiesWithin, filledFrom};
 ghost use Rattle.store.specs.Store.{Writes, IsRead, Returns, formSize};
 ghost use Rattle.store.specs.declared.Layout.the-variants as layout;
 
@@ -48,23 +48,25 @@ pub struct ReadChart {
     pub answer: ReadAnswer,
 }
 
-// Where the three records of a stored form stand.
+// Where the three records of a stored form are.
 enum Layout {
     Form {
         head: Place,
         base: Place,
         series: Place,
     },
+    // The bytes are no stored form.
     Other,
 }
 
-// The record kinds, and the numbers of the first record: chart kind, status, open verdict.
-const HEAD: u16 = 1;
+// The record kinds.
+const HEAD_KIND: u16 = 1;
 
-const BASE: u16 = 2;
+const BASE_KIND: u16 = 2;
 
-const SERIES: u16 = 3;
+const SERIES_KIND: u16 = 3;
 
+// How many numbers the first record has: chart kind, status, open verdict.
 const HEAD_COUNT: usize = 3;
 
 // The stored form goes to the front of the buffer; the bytes after it stay.
@@ -80,6 +82,7 @@ pub fn write(chart: Chart, out: &mut [u8]) -> WriteAnswer
     WriteAnswer::Done(put_form(chart, out))
 }
 
+// The chart whose stored form the bytes are.
 pub fn read(bytes: &[u8]) -> ReadChart
     ensures { λ r. ⌜ IsRead (reading (now (bytes .entry))) r ⌝ }
 {
@@ -118,7 +121,8 @@ fn form_size(n: usize, m: usize) -> usize
     record_size(HEAD_COUNT) + record_size(n) + record_size(m)
 }
 
-// The stored form of a sound chart, at the front of a buffer that has room for it. Answers its number of bytes.
+// The stored form of a sound chart, at the front of a buffer that has room for it. Answers its number of bytes. The first record's numbers
+// go as the words that they stand for, so that one function writes all three records.
 fn put_form(chart: Chart, out: &mut [u8]) -> usize
     requires { ⌜ (soundChart chart ≡ true) × (formSize (chart .«base_len») (chart .«series_len») ≤ length (now out)) ⌝ }
     ensures { λ r. ⌜ Placed (now (out .entry)) 0 (storedForm (stateOf chart)) (now (out .exit)) r ⌝ }
@@ -132,9 +136,9 @@ fn put_form(chart: Chart, out: &mut [u8]) -> usize
     let n = chart.base_len;
     let series = chart.series;
     let m = chart.series_len;
-    let second = put_record(out, 0, HEAD, &head);
-    let third = put_record(out, second, BASE, &base[..n]);
-    put_record(out, third, SERIES, &series[..m])
+    let after_head = put_record(out, 0, HEAD_KIND, &head);
+    let after_base = put_record(out, after_head, BASE_KIND, &base[..n]);
+    put_record(out, after_base, SERIES_KIND, &series[..m])
 }
 
 // ---- reading
@@ -143,14 +147,19 @@ fn put_form(chart: Chart, out: &mut [u8]) -> usize
 fn lay_out(bytes: &[u8]) -> Layout
     ensures { λ r. ⌜ r ≡ layoutOf (now (bytes .entry)) ⌝ }
 {
-    let Found::Record(head) = find_record(bytes, Cursor { at: 0 }, HEAD, HEAD_COUNT, HEAD_COUNT)
-    else {
+    let Found::Record(head) = find_record(
+        bytes,
+        Cursor { at: 0 },
+        HEAD_KIND,
+        HEAD_COUNT,
+        HEAD_COUNT,
+    ) else {
         return Layout::Other;
     };
     let Found::Record(base) = find_record(
         bytes,
         Cursor { at: head.end },
-        BASE,
+        BASE_KIND,
         Chart::BASE_LEAST,
         Chart::BASE_MOST,
     ) else {
@@ -159,13 +168,13 @@ fn lay_out(bytes: &[u8]) -> Layout
     let Found::Record(series) = find_record(
         bytes,
         Cursor { at: base.end },
-        SERIES,
+        SERIES_KIND,
         0,
         Chart::SERIES_MOST,
     ) else {
         return Layout::Other;
     };
-    if series.end != bytes.len() {
+    if series.end < bytes.len() {
         return Layout::Other;
     }
     Layout::Form { head, base, series }
@@ -191,19 +200,19 @@ fn chart_in(bytes: &[u8], head: Place, base: Place, series: Place) -> Chart
     }
 }
 
-// The words of the record at a place, into the first places of an array. Answers how many there are.
-fn fill(places: &mut [i16], bytes: &[u8], place: Place) -> usize
-    requires { ⌜ (place .count ≤ length (now places)) × LiesWithin (now bytes) place ⌝ }
-    ensures { λ r. ⌜ Fills (now (bytes .entry)) place (now (places .entry)) (now (places .exit)) r ⌝ }
+// The words of a record, into the first places of an array.
+fn fill(words: &mut [i16], bytes: &[u8], place: Place)
+    requires { ⌜ (place .count ≤ length (now words)) × LiesWithin (now bytes) place ⌝ }
+    ensures { λ _. ⌜ now (words .exit) ≡ filledFrom (now (bytes .entry)) place (now (words .entry)) ⌝ }
 {
     let mut i: usize = 0;
     while i < place.count {
-        places[i] = word_of(nth_number(bytes, place, i));
+        words[i] = word_of(nth_number(bytes, place, i));
         i += 1;
     }
-    i
 }
 
+// What a refused read answers.
 fn declined_read(number: u16) -> ReadChart
     ensures { λ r. ⌜ IsRead (refused number) r ⌝ }
 {

@@ -12,6 +12,7 @@ pub struct Cursor {
 // The record kind of the record at a cursor, and how many numbers it has.
 pub enum Seen {
     Record { kind: u16, count: usize },
+    // The bytes there are no record.
     Nothing,
 }
 
@@ -20,11 +21,11 @@ pub struct Reader<'a> {
     pub cursor: Cursor,
 }
 
-// The record at the cursor, through a reader: who calls this has plain parameters.
-pub fn next_at(bytes: &[u8], cursor: Cursor) -> Seen
+// The record at the cursor, seen through a reader. This is what the rest of the crate calls.
+pub fn see_record_at(bytes: &[u8], cursor: Cursor) -> Seen
     ensures { λ r. ⌜ r ≡ recordIn (drop (cursor .at) (now (bytes .entry))) ⌝ }
 {
-    next_record(reader_on(bytes, cursor))
+    see_record(reader_on(bytes, cursor))
 }
 
 pub fn reader_on<'a>(bytes: &'a [u8], cursor: Cursor) -> Reader<'a>
@@ -33,7 +34,7 @@ pub fn reader_on<'a>(bytes: &'a [u8], cursor: Cursor) -> Reader<'a>
     Reader { bytes, cursor }
 }
 
-pub fn next_record<'a>(reader: Reader<'a>) -> Seen
+pub fn see_record<'a>(reader: Reader<'a>) -> Seen
     ensures { λ r. ⌜ r ≡ recordIn (drop (reader .entry .cursor .at) (now (reader .entry .bytes))) ⌝ }
 {
     record_at(reader.bytes, reader.cursor)

@@ -4,7 +4,7 @@ use crate::numbers::put_number;
 use crate::numbers::put_words;
 use crate::reader::Cursor;
 use crate::reader::Seen;
-use crate::reader::next_at;
+use crate::reader::see_record_at;
 ghost use mathlib.Core.Path.{_≡_};
 ghost use mathlib.Core.List.{map};
 ghost use Prim.Native.Nat.{_+_, _≤_, _<_};
@@ -16,15 +16,16 @@ ghost use Rattle.store.specs.Placed.{Placed};
 ghost use Rattle.store.specs.Records.{recordAt, numbersAt, LiesWithin};
 ghost use Rattle.store.specs.Store.{recordSize};
 
-// Where a record stands in the bytes: its first number, how many numbers it has, and the place after it.
+// Where a record is in the bytes: the byte at which its first number begins, how many numbers it has, and the byte after it.
 pub struct Place {
-    pub numbers: usize,
+    pub first: usize,
     pub count: usize,
     pub end: usize,
 }
 
 pub enum Found {
     Record(Place),
+    // No record, or not the one that is looked for.
     Nothing,
 }
 
@@ -36,40 +37,42 @@ pub fn record_size(n: usize) -> usize
     4 + 2 * n
 }
 
-// A record of words. Answers the place after it.
-pub fn put_record(out: &mut [u8], at: usize, kind: u16, words: &[i16]) -> usize
+// A record of words, from a byte of the buffer on. Answers the byte after it.
+pub fn put_record(out: &mut [u8], at: usize, record_kind: u16, words: &[i16]) -> usize
     requires { ⌜ (length (now words) ≤ seriesMost) × (at + recordSize (length (now words)) ≤ length (now out)) ⌝ }
-    ensures { λ r. ⌜ Placed (now (out .entry)) at (recordOf kind (map numberOf (now (words .entry)))) (now (out .exit)) r ⌝ }
+    ensures { λ r. ⌜ Placed (now (out .entry)) at (recordOf «record_kind» (map numberOf (now (words .entry)))) (now (out .exit)) r ⌝ }
 {
     let length = 2 + 2 * words.len();
-    let second = put_number(out, at, length as u16);
-    let third = put_number(out, second, kind);
-    put_words(out, third, words)
+    let at_kind = put_number(out, at, length as u16);
+    let at_words = put_number(out, at_kind, record_kind);
+    put_words(out, at_words, words)
 }
 
-// The record at the cursor, if it is of this kind and has this many numbers at least and at most.
-pub fn find_record(bytes: &[u8], cursor: Cursor, kind: u16, least: usize, most: usize) -> Found
-    ensures { λ r. ⌜ r ≡ recordAt kind least most (cursor .at) (now (bytes .entry)) ⌝ }
+// The record at the cursor, if it is of this record kind and its numbers are at least `least` and at most `most`.
+pub fn find_record(
+    bytes: &[u8],
+    cursor: Cursor,
+    record_kind: u16,
+    least: usize,
+    most: usize,
+) -> Found
+    ensures { λ r. ⌜ r ≡ recordAt «record_kind» least most (cursor .at) (now (bytes .entry)) ⌝ }
 {
     let at = cursor.at;
-    let Seen::Record {
-        kind: seen_kind,
-        count,
-    } = next_at(bytes, cursor)
-    else {
+    let Seen::Record { kind, count } = see_record_at(bytes, cursor) else {
         return Found::Nothing;
     };
-    if seen_kind != kind {
+    if kind != record_kind {
         return Found::Nothing;
     }
     if (count < least) | (most < count) {
         return Found::Nothing;
     }
-    let numbers = at + 4;
+    let first = at + 4;
     Found::Record(Place {
-        numbers,
+        first,
         count,
-        end: numbers + 2 * count,
+        end: first + 2 * count,
     })
 }
 
@@ -78,5 +81,5 @@ pub fn nth_number(bytes: &[u8], place: Place, i: usize) -> u16
     requires { ⌜ (i < place .count) × LiesWithin (now bytes) place ⌝ }
     ensures { λ r. ⌜ r ≡ getD (numbersAt (now (bytes .entry)) place) i 0 ⌝ }
 {
-    number_at(bytes, place.numbers + 2 * i)
+    number_at(bytes, place.first + 2 * i)
 }

@@ -46,7 +46,7 @@ returns c =
     let series = kind .before .before in
     let base = series .before .before .before in
     let start = base .before .before .before in
-    chart-held _ _ _ _ (laid start) _ _ _ _ _ _ _ (base .fill .ensures) (series .fill2 .ensures)
+    chart-held _ _ _ _ (laid start) _ _ _ _ _ (base .fill .ensures) (series .fill2 .ensures)
     (kind .nth-number .ensures) (status .nth-number2 .ensures) (c .nth-number3 .ensures)
 
 pub chart-in-spec : {M : Type 1} → statement M

@@ -1,4 +1,4 @@
--- `store::fill` meets its contract. Invariant: the first i places hold the words of the first i numbers, and the others are as they were.
+-- `store::fill` meets its contract. Invariant: the first i places of the array hold the words of the first i numbers, and the others are as they were.
 use borrow.Author.Needs.{needs, sfits-of}
 use mathlib.Core.Path.{_≡_, refl, ap, _∙_}
 use mathlib.Core.List.{_++_, map}
@@ -8,18 +8,18 @@ use lib.ListN.{length, take, drop}
 use mir.Syntax.{w16}
 use mir.ValLaws.{toZ-ofZ}
 use Rattle.guide.specs.Bytes.{wordOf}
-use Rattle.store.specs.Records.{numbersAt}
+use Rattle.store.specs.Records.{numbersAt, filledFrom}
 use Rattle.store.proofs.RecordsIn.{length-numbers-at, filled-more, filled-all}
 use Rattle.store.proofs.fill.Statement.{statement}
 use Rattle.store.proofs.fill.Tie as tie
 
 abbrev Inv-loop : tie.InvT-loop
-Inv-loop places₀ bytes place i₀ places i =
+Inv-loop words₀ bytes place i₀ words i =
     (i ≤ place .count)
-    × ((length places ≡ length places₀) × (places ≡ map wordOf (take i (numbersAt bytes place)) ++ drop i places₀))
+    × ((length words ≡ length words₀) × (words ≡ map wordOf (take i (numbersAt bytes place)) ++ drop i words₀))
 
 abbrev μ-loop : tie.MeasureT-loop
-μ-loop places₀ bytes place i₀ places i = place .count - i
+μ-loop words₀ bytes place i₀ words i = place .count - i
 
 loop-holds : tie.Need-loop-holds Inv-loop μ-loop
 loop-holds c = (search needs, (refl, refl))
@@ -33,8 +33,8 @@ word-of-requires c κs = search needs
 mul-t8 : tie.Need-mul-t8 Inv-loop μ-loop
 mul-t8 c = search needs
 
-slice-set-from-places : tie.Need-slice-set-from-places Inv-loop μ-loop
-slice-set-from-places c = search needs
+slice-set-from-words : tie.Need-slice-set-from-words Inv-loop μ-loop
+slice-set-from-words c = search needs
 
 add-i : tie.Need-add-i Inv-loop μ-loop
 add-i c = search needs
@@ -51,21 +51,19 @@ loop-again c =
     let word = c .word-of in
     let written = toZ-ofZ w16 (word .result) (sfits-of (word .ok)) ∙ (word .ensures ∙ ap wordOf (number .ensures)) in
     let count = length-numbers-at (a .bytes .now) (a .place) in
-    (search needs, (search needs, filled-more ns (at .loop .i) (a .places .now) (omega arith) (omega arith) (at .loop .inv .1 .1) written))
+    (search needs, (search needs, filled-more ns (at .loop .i) (a .words .now) (omega arith) (omega arith) (at .loop .inv .1 .1) written))
 
 same-length : tie.Need-same-length Inv-loop μ-loop
 same-length c = search needs
 
 returns : tie.Need-returns Inv-loop μ-loop
+unfolding filledFrom
 returns c =
     let at = c .before .before in
     let a = at .before .before .args in
     let all : at .loop .i ≡ a .place .count = omega arith in
     let count = length-numbers-at (a .bytes .now) (a .place) in
-    record {
-      places = filled-all (numbersAt (a .bytes .now) (a .place)) (a .place .count) (a .places .now) count (rw all at (at .loop .inv .1 .1));
-      number = all;
-    }
+    filled-all (numbersAt (a .bytes .now) (a .place)) (a .place .count) (a .words .now) count (rw all at (at .loop .inv .1 .1))
 
 pub fill-spec : {M : Type 1} → statement M
 fill-spec =
@@ -77,7 +75,7 @@ fill-spec =
     nth-number-requires
     word-of-requires
     mul-t8
-    slice-set-from-places
+    slice-set-from-words
     add-i
     loop-less
     loop-again

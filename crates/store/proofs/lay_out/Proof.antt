@@ -1,5 +1,6 @@
 -- `store::lay_out` meets its contract: three searches, each from where the record before it ends, and then the end of the bytes.
 use borrow.Author.Needs.{needs}
+use native.Mathlib.Omega.{arith}
 use mathlib.Core.Path.{_≡_, sym, _∙_}
 use mathlib.Core.List.{List}
 use Prim.Native.Nat.{ℕ}
@@ -92,14 +93,14 @@ returns-4 c =
     let s = c .before .before .before in
     let b = after-base s in
     let h = after-head b in
-    bytes-left (bytes h) (head h) (found-head h) (base b) (found-base b) (series s) (found-series s) (c .if1 .taken)
+    bytes-left (bytes h) (head h) (found-head h) (base b) (found-base b) (series s) (found-series s) (omega (arith, c .if1 .taken))
 
 returns-5 : tie.Need-returns-5
 returns-5 c =
     let s = c .before .before .before in
     let b = after-base s in
     let h = after-head b in
-    form-there (bytes h) (head h) (found-head h) (base b) (found-base b) (series s) (found-series s) (c .if1 .left)
+    form-there (bytes h) (head h) (found-head h) (base b) (found-base b) (series s) (found-series s) (omega (arith, c .if1 .left))
 
 pub lay-out-spec : {M : Type 1} → statement M
 lay-out-spec =

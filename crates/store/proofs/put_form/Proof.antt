@@ -67,7 +67,7 @@ put-record-requires-2 c κs =
     let start = first .before .before .before .before .before .before .before .before .before in
     let within = sound-chart start .within in
     let count = base-count (start .args .chart) within in
-    let end = record-ends 1 _ (first .put-record .ensures) in
+    let end = record-ends _ _ (first .put-record .ensures) in
     (omega (arith, count, within .base-few), omega (arith, start, first, room start, count, end))
 
 array-share-prefix-series : tie.Need-array-share-prefix-series
@@ -93,8 +93,8 @@ put-record-requires-3 c κs =
     let chart = start .args .chart in
     let bases = length-map (take (chart .«base_len») (chart .base)) numberOf ∙ base-count chart within in
     let count = series-count (start .args .chart) within in
-    let first-end = record-ends 1 _ (first .put-record .ensures) in
-    let second-end = record-ends 2 _ (second .put-record2 .ensures) in
+    let first-end = record-ends _ _ (first .put-record .ensures) in
+    let second-end = record-ends _ _ (second .put-record2 .ensures) in
     (omega (arith, count, within .series-few), omega (arith, start, first, second, room start, bases, count, first-end, second-end))
 
 same-length : tie.Need-same-length

@@ -6,6 +6,7 @@ use mathlib.Core.Bool.{true}
 use Rattle.guide.proofs.Booleans.{answered-no, answered-yes}
 use Rattle.chart.specs.Soundness.{soundChart}
 use Rattle.chart.proofs.State.{Given, given}
+use Rattle.store.specs.Store.{recordSize, formSize}
 use Rattle.store.proofs.Writing.{write-unsound, write-short, write-done}
 use Rattle.store.proofs.write.Statement.{statement}
 use Rattle.store.proofs.write.Tie as tie
@@ -27,14 +28,18 @@ facts : (c : tie.Else1) → Given (c .before .before .before .args .chart)
 facts c = lengths (c .before .before .before) (is-sound c)
 
 form-size-requires : tie.Need-form-size-requires
-form-size-requires c κs = let within = facts c .within in (within .base-few, within .series-few)
+form-size-requires c κs =
+    let within = facts c .within in
+    (omega (arith, within .base-few), omega (arith, within .series-few))
 
 returns-2 : tie.Need-returns-2
+unfolding formSize recordSize
 returns-2 c =
     let known = c .before .before in
     write-short _ (facts known) _ (is-sound known) (omega (arith, c .if2 .taken, c .before .form-size .ensures))
 
 put-form-requires : tie.Need-put-form-requires
+unfolding formSize recordSize
 put-form-requires c κs =
     let tested = c .before in
     let known = tested .before .before in
@@ -44,6 +49,7 @@ same-length : tie.Need-same-length
 same-length c = search needs
 
 returns-3 : tie.Need-returns-3
+unfolding formSize recordSize
 returns-3 c =
     let put = c .before .before in
     let tested = put .before .before in

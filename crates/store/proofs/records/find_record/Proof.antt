@@ -1,4 +1,4 @@
--- `store::records::find_record` meets its contract: what `next_at` saw at the cursor is the record that is asked for, or it is not.
+-- `store::records::find_record` meets its contract: what `see_record_at` saw at the cursor is the record that is asked for, or it is not.
 use borrow.Author.Needs.{needs}
 use mathlib.Core.Path.{_≡_, sym, _∙_}
 use Prim.Native.Nat.{_+_, _*_, _≤_}
@@ -11,20 +11,20 @@ use Rattle.store.proofs.records.find_record.Statement.{statement}
 use Rattle.store.proofs.records.find_record.Tie as tie
 
 -- what was seen, where it is a record
-saw : (c : tie.After-seen-kind) → let a = c .before .before .before .before .args in
-    seen.Record (c .seen-kind .given .0 .0) (c .seen-kind .given .0 .1 .0) ≡ recordIn (drop (a .cursor .at) (a .bytes .now))
-saw c = sym (c .seen-kind .given .1) ∙ c .before .before .next-at .ensures
+saw : (c : tie.After-kind) → let a = c .before .before .before .before .args in
+    seen.Record (c .kind .given .0 .0) (c .kind .given .0 .1 .0) ≡ recordIn (drop (a .cursor .at) (a .bytes .now))
+saw c = sym (c .kind .given .1) ∙ c .before .before .see-record-at .ensures
 
 -- .. and that it lies within the bytes
-within : (c : tie.After-seen-kind) → let a = c .before .before .before .before .args in
-    a .cursor .at + 4 + 2 * c .seen-kind .given .0 .1 .0 ≤ length (a .bytes .now)
+within : (c : tie.After-kind) → let a = c .before .before .before .before .args in
+    a .cursor .at + 4 + 2 * c .kind .given .0 .1 .0 ≤ length (a .bytes .now)
 within c = let a = c .before .before .before .before .args in record-within (a .cursor .at) (a .bytes .now) _ _ (saw c)
 
-next-at-requires : tie.Need-next-at-requires
-next-at-requires c κs = search needs
+see-record-at-requires : tie.Need-see-record-at-requires
+see-record-at-requires c κs = search needs
 
-enum-known-seen-kind : tie.Need-enum-known-seen-kind
-enum-known-seen-kind c = search needs
+enum-known-kind : tie.Need-enum-known-kind
+enum-known-kind c = search needs
 
 enum-told : tie.Need-enum-told
 enum-told c = search needs
@@ -32,22 +32,22 @@ enum-told c = search needs
 returns : tie.Need-returns
 returns c =
     let a = c .before .before .before .before .args in
-    no-record (a .kind) (a .least) (a .most) (a .cursor .at) (a .bytes .now) (c .before .before .next-at .ensures) (c .enum-told .given .1)
+    no-record (a .record-kind) (a .least) (a .most) (a .cursor .at) (a .bytes .now) (c .before .before .see-record-at .ensures) (c .enum-told .given .1)
 
 returns-2 : tie.Need-returns-2
 returns-2 c =
     let there = c .before .before in
     let a = there .before .before .before .before .args in
-    other-kind (a .kind) (a .least) (a .most) (a .cursor .at) (a .bytes .now) _ _ (saw there) (c .if1 .taken)
+    other-kind (a .record-kind) (a .least) (a .most) (a .cursor .at) (a .bytes .now) _ _ (saw there) (c .if1 .taken)
 
 returns-3 : tie.Need-returns-3
 returns-3 c =
     let there = c .before .before .before in
     let a = there .before .before .before .before .args in
-    other-count (a .kind) (a .least) (a .most) (a .cursor .at) (a .bytes .now) _ _ (saw there) (c .if2 .taken)
+    other-count (a .record-kind) (a .least) (a .most) (a .cursor .at) (a .bytes .now) _ _ (saw there) (c .if2 .taken)
 
-add-numbers : tie.Need-add-numbers
-add-numbers c = omega (arith, within (c .before .before .before))
+add-first : tie.Need-add-first
+add-first c = omega (arith, within (c .before .before .before))
 
 mul-t14 : tie.Need-mul-t14
 mul-t14 c = omega (arith, within (c .before .before .before))
@@ -59,19 +59,19 @@ returns-4 : tie.Need-returns-4
 returns-4 c =
     let there = c .before .before .before in
     let a = there .before .before .before .before .args in
-    record-found (a .kind) (a .least) (a .most) (a .cursor .at) (a .bytes .now) _ _ (saw there) (c .before .if1 .left) (c .if2 .left)
+    record-found (a .record-kind) (a .least) (a .most) (a .cursor .at) (a .bytes .now) _ _ (saw there) (c .before .if1 .left) (c .if2 .left)
 
 pub find-record-spec : {M : Type 1} → statement M
 find-record-spec =
     tie.close
     (tie.spec
-    next-at-requires
-    enum-known-seen-kind
+    see-record-at-requires
+    enum-known-kind
     enum-told
     returns
     returns-2
     returns-3
-    add-numbers
+    add-first
     mul-t14
     add-t15
     returns-4)

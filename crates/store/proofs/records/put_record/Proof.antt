@@ -37,7 +37,7 @@ returns c =
     let kind-put = words-put .before .before .before .before in
     let length-put = kind-put .before .before .before .before in
     let start = length-put .before .before .before in
-    record-placed (start .args .kind) (now (start .args .words)) (start .pre .1)
+    record-placed (start .args .record-kind) (now (start .args .words)) (start .pre .1)
     (length-put .put-number .ensures) (kind-put .put-number2 .ensures) (words-put .put-words .ensures)
 
 pub put-record-spec : {M : Type 1} → statement M

@@ -1,5 +1,5 @@
--- `store::reader::next_at` meets its contract: a walk of its MIR, by hand. The reader that `reader_on` returns is held in a local, and goes
--- to `next_record`. Of each of the two the proof knows only that it meets its contract. MIR erases the lifetime in the type of a local, so
+-- `store::reader::see_record_at` meets its contract: a walk of its MIR, by hand. The reader that `reader_on` returns is held in a local, and goes
+-- to `see_record`. Of each of the two the proof knows only that it meets its contract. MIR erases the lifetime in the type of a local, so
 -- the machine value that `reader_on` returns is shown to have the struct's type at `erased`.
 use mathlib.Core.Path.{_≡_, refl, subst}
 use Prim.Native.Nat.{ℕ}
@@ -51,16 +51,16 @@ use Rattle.store.proofs.reader.Seen.Laws as seen-laws
 use Rattle.store.proofs.reader.reader_on as reader-on
 use Rattle.store.proofs.reader.reader_on.Symbol.{name as #reader-on, routine as reader-on-routine}
 use Rattle.store.proofs.reader.reader_on.Met.{met as reader-on-met}
-use Rattle.store.proofs.reader.next_record as next-record
-use Rattle.store.proofs.reader.next_record.Symbol.{name as #next-record, routine as next-record-routine}
-use Rattle.store.proofs.reader.next_record.Met.{met as next-record-met}
-use Rattle.store.proofs.reader.next_at as next-at
-use Rattle.store.proofs.reader.next_at.Key.{name as #next-at}
-use Rattle.store.proofs.reader.next_at.Statement as stated
-use Rattle.store.proofs.reader.next_at.Code as code
+use Rattle.store.proofs.reader.see_record as see-record
+use Rattle.store.proofs.reader.see_record.Symbol.{name as #see-record, routine as see-record-routine}
+use Rattle.store.proofs.reader.see_record.Met.{met as see-record-met}
+use Rattle.store.proofs.reader.see_record_at as see-record-at
+use Rattle.store.proofs.reader.see_record_at.Key.{name as #see-record-at}
+use Rattle.store.proofs.reader.see_record_at.Statement as stated
+use Rattle.store.proofs.reader.see_record_at.Code as code
 
 -- at exit the parameters are still owned, as they were passed
-abbrev stayed : Stays (next-at.ended .signature .params) (next-at.ended .kept)
+abbrev stayed : Stays (see-record-at.ended .signature .params) (see-record-at.ended .kept)
 stayed = (stay-none-slice (0 ∷ []) tt (plain (λ _. u8)) yes, (stay-none (λ _. cursor.the-row) yes, tt))
 
 -- what the clauses say of a result, at a slice and a cursor
@@ -72,8 +72,8 @@ module _ {M : Type 1} (𝓤 : URA M) (H : Heap 𝓤) (A : Atoms 𝓤) (mem : Mem
   abbrev Reader-on : Contract 𝓤
   Reader-on = tripleOf 𝓤 H A reader-on.signature (reader-on.spec 𝓤 H A mem run)
 
-  abbrev Next-record : Contract 𝓤
-  Next-record = tripleOf 𝓤 H A next-record.signature (next-record.spec 𝓤 H A mem run)
+  abbrev See-record : Contract 𝓤
+  See-record = tripleOf 𝓤 H A see-record.signature (see-record.spec 𝓤 H A mem run)
 
 module _ {M : Type 1} (𝓤 : URA M) (H : Heap 𝓤) (A : Atoms 𝓤) (W : Given 𝓤 H A) (mem : Memory → SProp 𝓤) (run : Routine → Fun 𝓤)
     (κ : Lft) (q : Share) (s : RefT (List ℕ)) (c : Cursor) (is-cursor : Is cursor.the-row c (cursor-laws.lowered c ∷ [])) where
@@ -96,18 +96,18 @@ module _ {M : Type 1} (𝓤 : URA M) (H : Heap 𝓤) (A : Atoms 𝓤) (W : Given
   cᵐ = cursor-laws.lowered c
 
   -- the parameters, and their machine values
-  abbrev args : Args next-at.signature (κ, tt)
+  abbrev args : Args see-record-at.signature (κ, tt)
   args = (s, (c, tt))
 
-  abbrev vals : Vals next-at.signature (κ, tt)
+  abbrev vals : Vals see-record-at.signature (κ, tt)
   vals = (sᵐ ∷ [], (cᵐ ∷ [], tt))
 
   abbrev Pre : SProp 𝓤
-  Pre = onEntry 𝓤 H A next-at.signature (κ, tt) (q, tt) args vals
+  Pre = onEntry 𝓤 H A see-record-at.signature (κ, tt) (q, tt) args vals
 
   -- the triple in which the walk ends, and what it is taken at
   abbrev Walk : Contract 𝓤
-  Walk = walkOf 𝓤 H A next-at.ended stayed (next-at.clauses 𝓤 H A mem run)
+  Walk = walkOf 𝓤 H A see-record-at.ended stayed (see-record-at.clauses 𝓤 H A mem run)
 
   abbrev bound : Walk .Ghost
   bound = (((κ, tt), (q, tt), tt, args, vals), tt)
@@ -155,24 +155,24 @@ module _ {M : Type 1} (𝓤 : URA M) (H : Heap 𝓤) (A : Atoms 𝓤) (W : Given
   on-said : (r : Reader) → ent 𝓤 (On-ensures r) (fact 𝓤 (Made r))
   on-said r = exE 𝓤 _ (λ ws. snd∗ 𝓤 (sem 𝓤 H A (lasts reader-on.ended (κ, tt) args ws)) (fact 𝓤 (Made r)))
 
-  -- the call of `next_record`, at the struct r with the machine value u: what it asks, and what is known once it has returned
-  abbrev passed : Reader → Val → Next-record 𝓤 H A mem run .Ghost
+  -- the call of `see_record`, at the struct r with the machine value u: what it asks, and what is known once it has returned
+  abbrev passed : Reader → Val → See-record 𝓤 H A mem run .Ghost
   passed r u = (((κ, tt), (q, tt), tt, (r, tt), (u ∷ [], tt)), tt)
 
-  abbrev Next-asks : Reader → Val → SProp 𝓤
-  Next-asks r u = Next-record 𝓤 H A mem run .pre (passed r u)
+  abbrev See-asks : Reader → Val → SProp 𝓤
+  See-asks r u = See-record 𝓤 H A mem run .pre (passed r u)
 
   abbrev Next-ensures : Reader → Seen → SProp 𝓤
-  Next-ensures r = ensured 𝓤 H A next-record.ended (next-record.clauses 𝓤 H A mem run) (κ, tt) (r, tt) tt
+  Next-ensures r = ensured 𝓤 H A see-record.ended (see-record.clauses 𝓤 H A mem run) (κ, tt) (r, tt) tt
 
-  next-asked : (r : Reader) (u : Val) → ent 𝓤 (⋆ 𝓤 H A (‵ (Row .own r (u ∷ [])) ∷ token ∷ [])) (Next-asks r u)
+  next-asked : (r : Reader) (u : Val) → ent 𝓤 (⋆ 𝓤 H A (‵ (Row .own r (u ∷ [])) ∷ token ∷ [])) (See-asks r u)
   next-asked r u =
       qed W (‵ (Row .own r (u ∷ [])) ∷ token ∷ []) ∵
       nothing ! $ move ! (1 ∷ 0 ∷ []) $ fjoin ! $ move ! (1 ∷ 0 ∷ []) $ join ! $ frame ! $ done !
 
   next-said : (r : Reader) (t : Seen) → ent 𝓤 (Next-ensures r t) (fact 𝓤 (Says (r .bytes) (r .cursor) t))
   next-said r t =
-      exE 𝓤 _ (λ ws. snd∗ 𝓤 (sem 𝓤 H A (lasts next-record.ended (κ, tt) (r, tt) ws)) (fact 𝓤 (Says (r .bytes) (r .cursor) t)))
+      exE 𝓤 _ (λ ws. snd∗ 𝓤 (sem 𝓤 H A (lasts see-record.ended (κ, tt) (r, tt) ws)) (fact 𝓤 (Says (r .bytes) (r .cursor) t)))
 
   -- what is said of the struct is said of the parameters
   same : (r : Reader) (t : Seen) → Made r → Says (r .bytes) (r .cursor) t → Says s c t
@@ -182,12 +182,12 @@ module _ {M : Type 1} (𝓤 : URA M) (H : Heap 𝓤) (A : Atoms 𝓤) (W : Given
   exits t u e =
       qed W (‵ (seen.the-row .own t (u ∷ [])) ∷ token ∷ ‵ Own ∷ []) ∵
       suffices ! _
-      (ends-at 𝓤 H A next-at.ended stayed (next-at.clauses 𝓤 H A mem run) W bound u t (tt, (tt, tt)) (tt, (tt, tt))) $
+      (ends-at 𝓤 H A see-record-at.ended stayed (see-record-at.clauses 𝓤 H A mem run) W bound u t (tt, (tt, tt)) (tt, (tt, tt))) $
       says ! e $ move ! (1 ∷ []) $ frame ! $ move ! (1 ∷ []) $ frame ! $ done !
 
   module _ (Cs : Calls 𝓤 H) (Λ : Loops 𝓤 H) (fm : FmC 𝓤 H (W .laws) Cs)
       (known-on : Triple 𝓤 (Cs #reader-on) (Reader-on 𝓤 H A mem run))
-      (known-next : Triple 𝓤 (Cs #next-record) (Next-record 𝓤 H A mem run)) where
+      (known-next : Triple 𝓤 (Cs #see-record) (See-record 𝓤 H A mem run)) where
     walk : Is Bytes s (sᵐ ∷ []) → ent 𝓤 Pre (WpFn 𝓤 H Cs Λ code.function (sᵐ ∷ cᵐ ∷ []) Post)
     walk is-bytes =
         let s-typed = shr-slice-lawful 𝓤 H A W (named 0) κ u8 .typed s (sᵐ ∷ []) is-bytes .0 in
@@ -207,9 +207,9 @@ module _ {M : Type 1} (𝓤 : URA M) (H : Heap 𝓤) (A : Atoms 𝓤) (W : Given
         peeks ! Row (Is Row) (shows 𝓤 H A Row) r (u ∷ []) (λ is-reader.
         land ! (from ! (stop !))
         (init ! 3 refl (struct.lawful (reader.the-type αᵉ) (reader-laws.the-laws αᵉ) 𝓤 H A W .typed r _ is-reader .0)) $
-        use2 W (raw (Next-asks r u)) (next-asked r u) $
-        -- [Next-asks; Own; _3; …; _2; …; _1; …; room for _0; …]
-        calls-at ! fm (Next-record 𝓤 H A mem run) known-next (passed r u)
+        use2 W (raw (See-asks r u)) (next-asked r u) $
+        -- [See-asks; Own; _3; …; _2; …; _1; …; room for _0; …]
+        calls-at ! fm (See-record 𝓤 H A mem run) known-next (passed r u)
         (and-then ! (load ! (from ! (stop !)) (look ! 2 refl)) (no-more !)) (λ v.
         use1 W (later (some (λ (t : Seen). (token ⊛ ‵ (seen.the-row .own t (v ∷ []))) ⊛ raw (Next-ensures r t)))) (id⊢ 𝓤 _) $
         await ! tt $ pick ! (λ t. split ! $ move ! (1 ∷ []) $ use1 W (raw (fact 𝓤 (Says (r .bytes) (r .cursor) t))) (next-said r t) $
@@ -223,32 +223,32 @@ module _ {M : Type 1} (𝓤 : URA M) (H : Heap 𝓤) (A : Atoms 𝓤) (W : Given
 
 module _ {M : Type 1} (𝓤 : URA M) (H : Heap 𝓤) (A : Atoms 𝓤) (W : Given 𝓤 H A) (mem : Memory → SProp 𝓤) (run : Routine → Fun 𝓤) where
   walks : (Cs : Calls 𝓤 H) (Λ : Loops 𝓤 H) → FmC 𝓤 H (W .laws) Cs
-      → Triple 𝓤 (Cs #reader-on) (Reader-on 𝓤 H A mem run) → Triple 𝓤 (Cs #next-record) (Next-record 𝓤 H A mem run)
-      → Walks 𝓤 H A next-at.ended stayed (WpFn 𝓤 H Cs Λ code.function) (next-at.clauses 𝓤 H A mem run)
+      → Triple 𝓤 (Cs #reader-on) (Reader-on 𝓤 H A mem run) → Triple 𝓤 (Cs #see-record) (See-record 𝓤 H A mem run)
+      → Walks 𝓤 H A see-record-at.ended stayed (WpFn 𝓤 H Cs Λ code.function) (see-record-at.clauses 𝓤 H A mem run)
   walks Cs Λ fm known-on known-next =
-      walked 𝓤 H A next-at.ended stayed (next-at.clauses 𝓤 H A mem run) (WpFn 𝓤 H Cs Λ code.function)
+      walked 𝓤 H A see-record-at.ended stayed (see-record-at.clauses 𝓤 H A mem run) (WpFn 𝓤 H Cs Λ code.function)
       (λ κs. (slice-vals, (struct.vals cursor.the-type cursor-laws.the-laws, tt)))
       (λ κs. (shr-slice-tells (named 0) (κs .0) u8, (struct.tells cursor.the-type cursor-laws.the-laws, tt)))
       (λ κs qs bounds a g are. via 𝓤 _ (fst∗ 𝓤 _ (emp 𝓤))
       (walk 𝓤 H A W mem run (κs .0) (qs .0) (a .0) (a .1 .0) (are .1 .0) Cs Λ fm known-on known-next (are .0)))
 
   meets : (𝓣 : Tables 𝓤 H)
-      → Triple 𝓤 (𝓣 .C #reader-on) (Reader-on 𝓤 H A mem run) → Triple 𝓤 (𝓣 .C #next-record) (Next-record 𝓤 H A mem run)
-      → Meets 𝓤 H A next-at.signature (WpFn 𝓤 H (𝓣 .C) (𝓣 .Λ) code.function) (next-at.spec 𝓤 H A mem run)
+      → Triple 𝓤 (𝓣 .C #reader-on) (Reader-on 𝓤 H A mem run) → Triple 𝓤 (𝓣 .C #see-record) (See-record 𝓤 H A mem run)
+      → Meets 𝓤 H A see-record-at.signature (WpFn 𝓤 H (𝓣 .C) (𝓣 .Λ) code.function) (see-record-at.spec 𝓤 H A mem run)
   meets 𝓣 known-on known-next =
       let bytes-go = goes-none-slice 𝓤 H A W 1 (0 ∷ []) tt (plain (λ _. u8)) yes in
       let cursor-goes = goes-none 𝓤 H A W 1 (λ _. cursor.the-row) yes (λ κs x f. refl) in
-      walk-meets 𝓤 H A next-at.ended stayed W (bytes-go, (cursor-goes, tt))
-      (next-at.clauses 𝓤 H A mem run) (WpFn 𝓤 H (𝓣 .C) (𝓣 .Λ) code.function) (WpFn-mono 𝓤 H (W .laws) 𝓣 code.function)
+      walk-meets 𝓤 H A see-record-at.ended stayed W (bytes-go, (cursor-goes, tt))
+      (see-record-at.clauses 𝓤 H A mem run) (WpFn 𝓤 H (𝓣 .C) (𝓣 .Λ) code.function) (WpFn-mono 𝓤 H (W .laws) 𝓣 code.function)
       (walks (𝓣 .C) (𝓣 .Λ) (fmOf 𝓤 H (W .laws) 𝓣) known-on known-next)
 
-pub next-at-spec : {M : Type 1} → stated.statement M
+pub see-record-at-spec : {M : Type 1} → stated.statement M
 unfolding code.routine tablesOf
-next-at-spec 𝓤 H 𝓜 𝓖 𝓡 =
-    entered 𝓤 H (tripleOf 𝓤 H (𝓖 .A) next-at.signature (next-at.spec 𝓤 H (𝓖 .A) (𝓜 .mem) (𝓡 .run)))
-    (tables 𝓤 H 𝓜 𝓡 code.env .C) (tables 𝓤 H 𝓜 𝓡 code.env .Λ) #next-at code.function (code.unfolded 𝓤 H 𝓜 𝓡)
+see-record-at-spec 𝓤 H 𝓜 𝓖 𝓡 =
+    entered 𝓤 H (tripleOf 𝓤 H (𝓖 .A) see-record-at.signature (see-record-at.spec 𝓤 H (𝓖 .A) (𝓜 .mem) (𝓡 .run)))
+    (tables 𝓤 H 𝓜 𝓡 code.env .C) (tables 𝓤 H 𝓜 𝓡 code.env .Λ) #see-record-at code.function (code.unfolded 𝓤 H 𝓜 𝓡)
     (meets 𝓤 H (𝓖 .A) (givenOf 𝓤 H 𝓜 𝓖) (𝓜 .mem) (𝓡 .run) (tablesOf 𝓤 H 𝓜 (tables 𝓤 H 𝓜 𝓡 code.env))
     (cited 𝓤 H (Reader-on 𝓤 H (𝓖 .A) (𝓜 .mem) (𝓡 .run)) 𝓜 𝓡 code.env #reader-on reader-on-routine code.calls-store·reader·reader-on
     (reader-on-met 𝓤 H 𝓜 𝓖 𝓡))
-    (cited 𝓤 H (Next-record 𝓤 H (𝓖 .A) (𝓜 .mem) (𝓡 .run)) 𝓜 𝓡 code.env #next-record next-record-routine
-    code.calls-store·reader·next-record (next-record-met 𝓤 H 𝓜 𝓖 𝓡)))
+    (cited 𝓤 H (See-record 𝓤 H (𝓖 .A) (𝓜 .mem) (𝓡 .run)) 𝓜 𝓡 code.env #see-record see-record-routine
+    code.calls-store·reader·see-record (see-record-met 𝓤 H 𝓜 𝓖 𝓡)))

@@ -1,4 +1,4 @@
--- `store::reader::next_record` meets its contract: a walk of its MIR, by hand. The reader is taken apart, and `record_at` is called on the
+-- `store::reader::see_record` meets its contract: a walk of its MIR, by hand. The reader is taken apart, and `record_at` is called on the
 -- slice and the cursor. A reader is Copy, so what it owns is had twice: one copy is kept whole for the exit, and the other, field by field,
 -- is what `record_at` asks. Of `record_at` the proof knows only that it meets its contract.
 use mathlib.Core.Path.{_≡_, refl}
@@ -53,10 +53,10 @@ use Rattle.store.proofs.reader.Seen.Laws as seen-laws
 use Rattle.store.proofs.reader.record_at as record-at
 use Rattle.store.proofs.reader.record_at.Symbol.{name as #record-at, routine as record-at-routine}
 use Rattle.store.proofs.reader.record_at.Met.{met as record-at-met}
-use Rattle.store.proofs.reader.next_record as next-record
-use Rattle.store.proofs.reader.next_record.Key.{name as #next-record}
-use Rattle.store.proofs.reader.next_record.Statement as stated
-use Rattle.store.proofs.reader.next_record.Code as code
+use Rattle.store.proofs.reader.see_record as see-record
+use Rattle.store.proofs.reader.see_record.Key.{name as #see-record}
+use Rattle.store.proofs.reader.see_record.Statement as stated
+use Rattle.store.proofs.reader.see_record.Code as code
 
 -- the lifetime of the struct's type, and that type, over the signature's lifetimes
 abbrev α : Lfts 1 → NamedLft
@@ -66,7 +66,7 @@ abbrev Row : Lfts 1 → RattleType
 Row κs = reader.the-row (α κs)
 
 -- at exit the parameter is still owned, as it was passed
-abbrev stayed : Stays (next-record.ended .signature .params) (next-record.ended .kept)
+abbrev stayed : Stays (see-record.ended .signature .params) (see-record.ended .kept)
 stayed = (stay-none Row yes, tt)
 
 -- what the clause says of a result
@@ -91,11 +91,11 @@ module _ {M : Type 1} (𝓤 : URA M) (H : Heap 𝓤) (A : Atoms 𝓤) (W : Given
   cᵐ = cursor-laws.lowered (r .cursor)
 
   abbrev Pre : SProp 𝓤
-  Pre = onEntry 𝓤 H A next-record.signature (κ, tt) (q, tt) (r, tt) (rᵐ ∷ [], tt)
+  Pre = onEntry 𝓤 H A see-record.signature (κ, tt) (q, tt) (r, tt) (rᵐ ∷ [], tt)
 
   -- the triple in which the walk ends, and what it is taken at
   abbrev Walk : Contract 𝓤
-  Walk = walkOf 𝓤 H A next-record.ended stayed (next-record.clauses 𝓤 H A mem run)
+  Walk = walkOf 𝓤 H A see-record.ended stayed (see-record.clauses 𝓤 H A mem run)
 
   abbrev bound : Walk .Ghost
   bound = (((κ, tt), (q, tt), tt, (r, tt), (rᵐ ∷ [], tt)), tt)
@@ -151,7 +151,7 @@ module _ {M : Type 1} (𝓤 : URA M) (H : Heap 𝓤) (A : Atoms 𝓤) (W : Given
   exits t u e =
       qed W (‵ (seen.the-row .own t (u ∷ [])) ∷ token ∷ ‵ Own ∷ []) ∵
       suffices ! _
-      (ends-at 𝓤 H A next-record.ended stayed (next-record.clauses 𝓤 H A mem run) W bound u t (tt, tt) (tt, tt)) $
+      (ends-at 𝓤 H A see-record.ended stayed (see-record.clauses 𝓤 H A mem run) W bound u t (tt, tt) (tt, tt)) $
       says ! e $ move ! (1 ∷ []) $ frame ! $ nothing ! $ move ! (2 ∷ 0 ∷ []) $ fjoin ! $ frame ! $ done !
 
   module _ (Cs : Calls 𝓤 H) (Λ : Loops 𝓤 H) (fm : FmC 𝓤 H (W .laws) Cs) (known : Triple 𝓤 (Cs #record-at) (Record-at 𝓤 H A mem run)) where
@@ -183,9 +183,9 @@ module _ {M : Type 1} (𝓤 : URA M) (H : Heap 𝓤) (A : Atoms 𝓤) (W : Given
 
 module _ {M : Type 1} (𝓤 : URA M) (H : Heap 𝓤) (A : Atoms 𝓤) (W : Given 𝓤 H A) (mem : Memory → SProp 𝓤) (run : Routine → Fun 𝓤) where
   walks : (Cs : Calls 𝓤 H) (Λ : Loops 𝓤 H) → FmC 𝓤 H (W .laws) Cs → Triple 𝓤 (Cs #record-at) (Record-at 𝓤 H A mem run)
-      → Walks 𝓤 H A next-record.ended stayed (WpFn 𝓤 H Cs Λ code.function) (next-record.clauses 𝓤 H A mem run)
+      → Walks 𝓤 H A see-record.ended stayed (WpFn 𝓤 H Cs Λ code.function) (see-record.clauses 𝓤 H A mem run)
   walks Cs Λ fm known =
-      walked 𝓤 H A next-record.ended stayed (next-record.clauses 𝓤 H A mem run) (WpFn 𝓤 H Cs Λ code.function)
+      walked 𝓤 H A see-record.ended stayed (see-record.clauses 𝓤 H A mem run) (WpFn 𝓤 H Cs Λ code.function)
       (λ κs. (struct.vals (reader.the-type (α κs)) (reader-laws.the-laws (α κs)), tt))
       (λ κs. (struct.tells (reader.the-type (α κs)) (reader-laws.the-laws (α κs)), tt))
       (λ κs qs bounds a g are. via 𝓤 _ (fst∗ 𝓤 _ (emp 𝓤))
@@ -194,17 +194,17 @@ module _ {M : Type 1} (𝓤 : URA M) (H : Heap 𝓤) (A : Atoms 𝓤) (W : Given
       (struct.owed (reader.the-type (α κs)) (reader-laws.the-laws (α κs)) (a .0) _ (are .0) .1 .0)))
 
   meets : (𝓣 : Tables 𝓤 H) → Triple 𝓤 (𝓣 .C #record-at) (Record-at 𝓤 H A mem run)
-      → Meets 𝓤 H A next-record.signature (WpFn 𝓤 H (𝓣 .C) (𝓣 .Λ) code.function) (next-record.spec 𝓤 H A mem run)
+      → Meets 𝓤 H A see-record.signature (WpFn 𝓤 H (𝓣 .C) (𝓣 .Λ) code.function) (see-record.spec 𝓤 H A mem run)
   meets 𝓣 known =
-      walk-meets 𝓤 H A next-record.ended stayed W (goes-none 𝓤 H A W 1 Row yes (λ κs x f. refl), tt)
-      (next-record.clauses 𝓤 H A mem run) (WpFn 𝓤 H (𝓣 .C) (𝓣 .Λ) code.function) (WpFn-mono 𝓤 H (W .laws) 𝓣 code.function)
+      walk-meets 𝓤 H A see-record.ended stayed W (goes-none 𝓤 H A W 1 Row yes (λ κs x f. refl), tt)
+      (see-record.clauses 𝓤 H A mem run) (WpFn 𝓤 H (𝓣 .C) (𝓣 .Λ) code.function) (WpFn-mono 𝓤 H (W .laws) 𝓣 code.function)
       (walks (𝓣 .C) (𝓣 .Λ) (fmOf 𝓤 H (W .laws) 𝓣) known)
 
-pub next-record-spec : {M : Type 1} → stated.statement M
+pub see-record-spec : {M : Type 1} → stated.statement M
 unfolding code.routine tablesOf
-next-record-spec 𝓤 H 𝓜 𝓖 𝓡 =
-    entered 𝓤 H (tripleOf 𝓤 H (𝓖 .A) next-record.signature (next-record.spec 𝓤 H (𝓖 .A) (𝓜 .mem) (𝓡 .run)))
-    (tables 𝓤 H 𝓜 𝓡 code.env .C) (tables 𝓤 H 𝓜 𝓡 code.env .Λ) #next-record code.function (code.unfolded 𝓤 H 𝓜 𝓡)
+see-record-spec 𝓤 H 𝓜 𝓖 𝓡 =
+    entered 𝓤 H (tripleOf 𝓤 H (𝓖 .A) see-record.signature (see-record.spec 𝓤 H (𝓖 .A) (𝓜 .mem) (𝓡 .run)))
+    (tables 𝓤 H 𝓜 𝓡 code.env .C) (tables 𝓤 H 𝓜 𝓡 code.env .Λ) #see-record code.function (code.unfolded 𝓤 H 𝓜 𝓡)
     (meets 𝓤 H (𝓖 .A) (givenOf 𝓤 H 𝓜 𝓖) (𝓜 .mem) (𝓡 .run) (tablesOf 𝓤 H 𝓜 (tables 𝓤 H 𝓜 𝓡 code.env))
     (cited 𝓤 H (Record-at 𝓤 H (𝓖 .A) (𝓜 .mem) (𝓡 .run)) 𝓜 𝓡 code.env #record-at record-at-routine code.calls-store·reader·record-at
     (record-at-met 𝓤 H 𝓜 𝓖 𝓡)))
