@@ -5,6 +5,9 @@ ghost use mathlib.Core.Path.{_≡_};
 ghost use lib.ListN.{drop};
 ghost use Rattle.store.specs.Records.{recordIn};
 
+// The bytes of a record's length and of its record kind, which come before its numbers.
+pub const BEFORE_NUMBERS: usize = 4;
+
 pub struct Cursor {
     pub at: usize,
 }
@@ -51,7 +54,7 @@ pub fn record_at(bytes: &[u8], cursor: Cursor) -> Seen
         return Seen::Nothing;
     }
     let left = size - at;
-    if left < 4 {
+    if left < BEFORE_NUMBERS {
         return Seen::Nothing;
     }
     let length = number_at(bytes, at) as usize;

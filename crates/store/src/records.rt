@@ -2,6 +2,7 @@
 use crate::numbers::number_at;
 use crate::numbers::put_number;
 use crate::numbers::put_words;
+use crate::reader::BEFORE_NUMBERS;
 use crate::reader::Cursor;
 use crate::reader::Seen;
 use crate::reader::see_record_at;
@@ -34,7 +35,7 @@ pub fn record_size(n: usize) -> usize
     requires { ⌜ n ≤ seriesMost ⌝ }
     ensures { λ r. ⌜ r ≡ recordSize n ⌝ }
 {
-    4 + 2 * n
+    BEFORE_NUMBERS + 2 * n
 }
 
 // A record of words, from a byte of the buffer on. Answers the byte after it.
@@ -68,7 +69,7 @@ pub fn find_record(
     if (count < least) | (most < count) {
         return Found::Nothing;
     }
-    let first = at + 4;
+    let first = at + BEFORE_NUMBERS;
     Found::Record(Place {
         first,
         count,
