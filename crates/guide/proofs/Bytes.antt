@@ -1,18 +1,18 @@
 -- Laws of numbers in two bytes and of words in two's complement: how many bytes there are (`length-bytes`), numbers read from their own
 -- bytes (`number-there`, `numbers-there`) and bytes made of the numbers in them (`bytes-back`), words and their numbers (`word-back`,
 -- `number-back`).
-use mathlib.Core.Path.{_≡_, refl, sym, ap, _∙_}
+use mathlib.Core.Path.{_≡_, refl, ap, _∙_}
 use mathlib.Core.Bool.{true}
 use mathlib.Core.List.{List, [], _∷_, _++_, map}
 use Prim.Native.Nat.{ℕ, zero, suc, _+_, _*_, _-_, _/_, _%_, _<_, _≤_}
 use native.Mathlib.Omega.{arith}
 use lib.ListN.{length, drop, getD}
 use lib.Seq.{getD-drop, drop-drop}
-use lib.IntN.{ℤ, pos, negsuc, negℤ}
+use lib.IntN.{ℤ, pos, negsuc}
 use lib.Dec.{ltb}
 use mir.Syntax.{w16}
 use mir.Val.{SFits}
-use borrow.Author.Tests.{lt-ltb, le-ltb, ltb-true, ltb-false}
+use borrow.Author.Tests.{lt-ltb, le-ltb}
 use Rattle.guide.specs.Kind.{inRange}
 use Rattle.guide.specs.AllOf.{allOf}
 use Rattle.guide.specs.Building.{allInRange}
@@ -76,7 +76,8 @@ unfolding numberIn
 number-small bytes are = omega (arith, are 0, are 1)
 
 -- the numbers in bytes give those bytes again
-pub bytes-back : (n : ℕ) (bytes : List ℕ) → AreBytes bytes → 2 * n ≤ length bytes → bytesOf (numbersIn n bytes) ++ drop (2 * n) bytes ≡ bytes
+pub bytes-back : (n : ℕ) (bytes : List ℕ) → AreBytes bytes → 2 * n ≤ length bytes
+    → bytesOf (numbersIn n bytes) ++ drop (2 * n) bytes ≡ bytes
 unfolding bytesOf numbersIn numberIn
 bytes-back zero bytes are h = refl
 bytes-back (suc n) [] are h = absurd (omega arith)

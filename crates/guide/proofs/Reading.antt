@@ -1,31 +1,31 @@
 -- The stored form, there and back. A record's bytes are read as that record (`record-*`), and bytes that are a record are its bytes
--- (`record-back`); so it is of the three (`form-is`, `form-held`, `form-back`). Then: a sound state that is written is read as the same state
--- (`read-stored`), bytes that are read are those that writing the state gives (`stored-read`), two sound states never have the same
+-- (`record-back`); so it is of the three (`form-is`, `form-held`, `form-back`). Then: a sound state that is written is read as the same
+-- state (`read-stored`), bytes that are read are those that writing the state gives (`stored-read`), two sound states never have the same
 -- bytes (`one-form`), 13 is answered of bytes that are no form of a state with as many words as a chart has, and of no others (`thirteen`,
 -- `no-form`), and lists of calls from reading are sound (`read-run`).
 use mathlib.Core.Path.{_≡_, refl, sym, ap, ap₂, _∙_}
 use mathlib.Core.Bool.{Bool, true, false, _&&_}
-use mathlib.Core.List.{List, [], _∷_, _++_, map, append-assoc, append-nil}
-use Prim.Native.Nat.{ℕ, zero, suc, _+_, _*_, _-_, _/_, _%_, _<_, _≤_}
+use mathlib.Core.List.{List, [], _∷_, _++_, map, append-nil}
+use Prim.Native.Nat.{ℕ, suc, _+_, _*_, _%_, _≤_}
 use native.Mathlib.Omega.{arith}
-use lib.ListN.{length, drop, getD, length-append, length-drop, length-map}
+use lib.ListN.{length, drop, getD, length-append, length-map}
 use lib.Seq.{drop-at, drop-drop}
 use lib.Dec.{leb, eqb}
-use lib.IntN.{ℤ}
 use borrow.Author.Tests.{leb-true, le-leb, eqb-true, eq-eqb}
 use Rattle.guide.specs.Choice.{require}
 use Rattle.guide.specs.Sizes.{baseLeast, baseMost, seriesMost}
-use Rattle.guide.specs.State.{State, state}
-use Rattle.guide.specs.Soundness.{areCounts, sound}
+use Rattle.guide.specs.State.{State}
+use Rattle.guide.specs.Soundness.{sound}
 use Rattle.guide.specs.Machine.{Call}
 use Rattle.guide.specs.Bytes.{bytesOf, numberIn, numbersIn, numberOf, wordOf}
 use Rattle.guide.specs.StoredForm.{recordOf, headNumbers, storedForm}
 use Rattle.guide.specs.Reading.{lengthIn, recordKindIn, countIn, recordNumbers, afterRecord, isRecord, startsWith}
 use Rattle.guide.specs.Reading.{fromBase, fromSeries, headCount, isForm, heldIn, taken, refused, reading}
 use Rattle.guide.proofs.Booleans.{both, by-test}
-use Rattle.guide.proofs.Soundness.{Sound, sound-facts}
+use Rattle.guide.proofs.Soundness.{sound-facts}
 use Rattle.guide.proofs.Machine.{SoundRun, sound-run}
-use Rattle.guide.proofs.Bytes.{length-bytes, number-there, numbers-there, AreBytes, bytes-from, bytes-back, length-numbers, words-back, numbers-back}
+use Rattle.guide.proofs.Bytes.{length-bytes, numbers-there, length-numbers, words-back}
+use Rattle.guide.proofs.Bytes.{AreBytes, bytes-from, bytes-back, numbers-back}
 
 -- ---- a record's bytes, and more after them
 
@@ -131,6 +131,12 @@ starts-facts recordKind least most bytes h =
 
 -- ---- the form of a state
 
+-- as many words as a chart has
+pub record WordCounts (s : State) : Type 0 where
+  pub base-least : baseLeast ≤ length (s .base)
+  pub base-most : length (s .base) ≤ baseMost
+  pub series-most : length (s .series) ≤ seriesMost
+
 module _ (s : State) where
   fromBaseIs : List ℕ
   fromBaseIs = recordOf 2 (map numberOf (s .base)) ++ recordOf 3 (map numberOf (s .series))
@@ -172,9 +178,9 @@ module _ (s : State) where
       )
 
   -- it is the three records, where the counts are those of a chart
-  pub form-is : baseLeast ≤ length (s .base) → length (s .base) ≤ baseMost → length (s .series) ≤ seriesMost → isForm (storedForm s) ≡ true
+  pub form-is : WordCounts s → isForm (storedForm s) ≡ true
   unfolding isForm storedForm headNumbers fromBaseIs
-  form-is least most few =
+  form-is counts =
       let head = record-starts 1 (headNumbers s) fromBaseIs headCount headCount (omega arith) (omega arith) in
       let base : startsWith 2 baseLeast baseMost (fromBase (storedForm s)) ≡ true =
       rw base-there
@@ -325,7 +331,9 @@ unfolding reading
 read-stored s h =
     let f = sound-facts s h in
     let held = form-held s (words-back (s .kind) (s .base) (f .base-in-range)) (words-back (s .kind) (s .series) (f .series-in-range)) in
-    rw (form-is s (f .base-least) (f .base-most) (f .series-most), held, h)
+    let counts : WordCounts s =
+    record { base-least = f .base-least; base-most = f .base-most; series-most = f .series-most } in
+    rw (form-is s counts, held, h)
 
 -- bytes that are read are those that writing the state gives
 pub stored-read : (bytes : List ℕ) (s : State) → AreBytes bytes → reading bytes ≡ taken s → storedForm s ≡ bytes
@@ -348,10 +356,10 @@ not-thirteen false whole held t x = let z : _≡_ {A = ℕ} 0 1 = cc in omega ar
 
 -- 13 is answered of no bytes that are the form of a state with as many words as a chart has, whatever the words and the other numbers are
 pub no-form : (bytes : List ℕ) → reading bytes ≡ refused 13
-    → (s : State) → baseLeast ≤ length (s .base) → length (s .base) ≤ baseMost → length (s .series) ≤ seriesMost → storedForm s ≡ bytes → ⊥
+    → (s : State) → WordCounts s → storedForm s ≡ bytes → ⊥
 unfolding reading
-no-form bytes e s least most few same =
-    not-thirteen (isForm bytes) (sound (heldIn bytes)) (heldIn bytes) (ap isForm (sym same) ∙ form-is s least most few) e
+no-form bytes e s counts same =
+    not-thirteen (isForm bytes) (sound (heldIn bytes)) (heldIn bytes) (ap isForm (sym same) ∙ form-is s counts) e
 
 -- the numbers of words that bytes hold
 words-held : (bytes : List ℕ) → length (map wordOf (recordNumbers bytes)) ≡ countIn bytes
@@ -359,8 +367,7 @@ unfolding recordNumbers
 words-held bytes = length-map (recordNumbers bytes) wordOf ∙ length-numbers (countIn bytes) (drop 4 bytes)
 
 -- .. and of all other bytes it is answered
-pub thirteen : (bytes : List ℕ) → AreBytes bytes
-    → ((s : State) → baseLeast ≤ length (s .base) → length (s .base) ≤ baseMost → length (s .series) ≤ seriesMost → storedForm s ≡ bytes → ⊥)
+pub thirteen : (bytes : List ℕ) → AreBytes bytes → ((s : State) → WordCounts s → storedForm s ≡ bytes → ⊥)
     → reading bytes ≡ refused 13
 unfolding reading heldIn
 thirteen bytes are none =
@@ -369,12 +376,13 @@ thirteen bytes are none =
     let facts = form-facts bytes t in
     let base = words-held (fromBase bytes) in
     let series = words-held (fromSeries bytes) in
-    absurd
-    (none (heldIn bytes)
-    (omega (arith, base, facts .base .least-count))
-    (omega (arith, base, facts .base .most-count))
-    (omega (arith, series, facts .series .most-count))
-    (form-back bytes are t)))
+    let counts : WordCounts (heldIn bytes) =
+    record {
+      base-least = omega (arith, base, facts .base .least-count);
+      base-most = omega (arith, base, facts .base .most-count);
+      series-most = omega (arith, series, facts .series .most-count);
+    } in
+    absurd (none (heldIn bytes) counts (form-back bytes are t)))
     (λ t. rw t)
 
 -- every list of calls on a chart that reading gives

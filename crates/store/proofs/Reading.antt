@@ -1,13 +1,13 @@
--- Laws of reading: what a layout that was found tells (`laid-out`), the chart that three records hold (`chart-held`), and reading's contract in
--- each of its cases (`read-no-form`, `read-unsound`, `read-done`).
+-- Laws of reading: what a layout that was found tells (`laid-out`), the chart that three records hold (`chart-held`), and reading's contract
+-- in each of its cases (`read-no-form`, `read-unsound`, `read-done`).
 use mathlib.Core.Path.{_≡_, refl, sym, ap, ap₂, _∙_}
 use mathlib.Core.Bool.{Bool, true, false}
-use mathlib.Core.List.{List, [], _∷_, _++_, map}
-use Prim.Native.Nat.{ℕ, zero, suc, _+_, _*_, _-_, _<_, _≤_}
+use mathlib.Core.List.{List, _++_, map}
+use Prim.Native.Nat.{ℕ, zero, suc, _-_, _≤_}
 use native.Mathlib.Omega.{arith}
 use lib.IntN.{ℤ, pos}
 use lib.ListN.{length, drop, getD, replicate, length-map}
-use lib.Seq.{drop-drop, drop-nil}
+use lib.Seq.{drop-drop}
 use Rattle.guide.specs.Choice.{choose}
 use Rattle.guide.specs.Sizes.{baseMost, seriesMost}
 use Rattle.guide.specs.State.{State}
@@ -25,7 +25,6 @@ use Rattle.chart.proofs.SoundCharts.{sound-chart-facts}
 use Rattle.chart.proofs.State.{state-of-chart}
 use Rattle.chart.proofs.Runs.{sound-chart-of}
 use Rattle.store.specs.declared.records.Place.{Place}
-use Rattle.store.specs.declared.Layout.{Layout}
 use Rattle.store.specs.declared.Layout.the-variants as layout
 use Rattle.store.specs.declared.ReadAnswer.the-variants as read
 use Rattle.store.specs.declared.ReadChart.{ReadChart}

@@ -1,6 +1,6 @@
--- Laws of reading what was written: the same chart comes (`returned`), unless writing declines (`not-written`). Two sound charts never have
--- the same bytes (`one-chart`), writing a chart that was read gives the bytes that it was read from (`written-again`), and lists of calls on
--- it are the machine's (`read-runs`).
+-- Laws of reading what was written: the same chart comes (`returned`), unless writing declines (`not-written`). Two sound charts never
+-- have the same bytes (`one-chart`), writing a chart that was read gives the bytes that it was read from (`written-again`), and lists of
+-- calls on it are the machine's (`read-runs`).
 use mathlib.Core.Path.{_≡_, refl, sym, ap, _∙_}
 use mathlib.Core.Bool.{Bool, true, false, _&&_}
 use mathlib.Core.List.{List, _++_}
@@ -101,7 +101,8 @@ read-written c g r is =
     (is .chart ∙ (ap chartAfterReading read ∙ chart-of-state c g), is .says ∙ read)
 
 -- a chart that was read is sound, so writing it is not declined with 14; and where it has room, it writes the bytes that were read
-module _ (bytes : List ℕ) (are : AreBytes bytes) (s : State) (e : reading bytes ≡ taken s) (r : ReadChart) (is : IsRead (reading bytes) r) where
+module _ (bytes : List ℕ) (are : AreBytes bytes) (s : State) (e : reading bytes ≡ taken s)
+    (r : ReadChart) (is : IsRead (reading bytes) r) where
   chart-is : r .chart ≡ chartOf s
   unfolding chartAfterReading
   chart-is = is .chart ∙ ap chartAfterReading e

@@ -1,19 +1,17 @@
--- Laws of writing: the stored form's size (`form-size`), its three records one behind the other (`form-placed`), and writing's contract in each
--- of its cases (`write-unsound`, `write-short`, `write-done`).
-use mathlib.Core.Path.{_≡_, refl, sym, ap, _∙_}
-use mathlib.Core.Bool.{Bool, true, false}
-use mathlib.Core.List.{List, [], _∷_, _++_, map, append-assoc}
+-- Laws of writing: the stored form's size (`form-size`), its three records one behind the other (`form-placed`), and writing's contract in
+-- each of its cases (`write-unsound`, `write-short`, `write-done`).
+use mathlib.Core.Path.{_≡_, ap, _∙_}
+use mathlib.Core.Bool.{true, false}
+use mathlib.Core.List.{List, _++_, map, append-assoc}
 use Prim.Native.Nat.{ℕ, _+_, _*_, _<_, _≤_}
 use native.Mathlib.Omega.{arith}
 use native.Mathlib.Nat.{zero-add}
 use lib.ListN.{length, length-append}
-use lib.Dec.{leb}
 use lib.IntN.{ℤ}
 use mir.Syntax.{w16}
 use mir.Val.{SFits, toZ, ofZ}
 use mir.ValLaws.{toZ-ofZ}
 use borrow.Author.Tests.{le-leb, lt-leb}
-use Rattle.guide.specs.Sizes.{baseMost, seriesMost}
 use Rattle.guide.specs.State.{State}
 use Rattle.guide.specs.Bytes.{numberOf, wordOf}
 use Rattle.guide.specs.StoredForm.{recordOf, headNumbers, storedForm, wrote, hasRoom, writing, bufferAfter}
@@ -88,5 +86,6 @@ form-placed s head {o₀} {o₁} {o₂} {o₃} {second} {third} {end} fits is p�
     let parts = length-append base series in
     let first : Placed o₀ 0 (recordOf 1 (headNumbers s)) o₁ second = rw is at p₁ in
     let both = placed-then (recordOf 1 (headNumbers s)) base (omega arith) first p₂ in
-    let all = placed-then (recordOf 1 (headNumbers s) ++ base) series (omega (arith, length-append (recordOf 1 (headNumbers s)) base)) both p₃ in
+    let two = length-append (recordOf 1 (headNumbers s)) base in
+    let all = placed-then (recordOf 1 (headNumbers s) ++ base) series (omega arith) both p₃ in
     rw (append-assoc (recordOf 1 (headNumbers s)) base series) at all

@@ -6,7 +6,7 @@ use Prim.Native.Nat.{ℕ, _+_, _*_}
 use Rattle.guide.specs.Choice.{require, choose}
 use Rattle.guide.specs.StoredForm.{WritingAnswer, wrote, hasRoom, writing, bufferAfter}
 use Rattle.guide.specs.StoredForm as form
-use Rattle.guide.specs.Reading.{ReadingAnswer, taken, refused, headCount, reading}
+use Rattle.guide.specs.Reading.{ReadingAnswer, taken, refused, headCount}
 use Rattle.chart.specs.declared.Chart.{Chart}
 use Rattle.chart.specs.Chart.{stateOf, chartOf, zeroChart}
 use Rattle.chart.specs.Soundness.{soundChart}

@@ -1,7 +1,8 @@
 -- `store::chart_in` meets its contract: the places are those of the three records, and the chart holds what they hold.
 use borrow.Author.Needs.{needs}
 use native.Mathlib.Omega.{arith}
-use Rattle.store.proofs.Reading.{Laid, laid-out, head-within, head-count, base-within, base-few, series-within, series-few, chart-held}
+use Rattle.store.proofs.Reading.{Laid, laid-out, head-within, head-count, base-within, base-few}
+use Rattle.store.proofs.Reading.{series-within, series-few, chart-held}
 use Rattle.store.proofs.chart_in.Statement.{statement}
 use Rattle.store.proofs.chart_in.Tie as tie
 

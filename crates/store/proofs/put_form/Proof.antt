@@ -115,7 +115,8 @@ returns c =
     let k = head-number (sfits-of (kind .word-of .ok)) (kind-small start) (kind .word-of .ensures) in
     let s = head-number (sfits-of (status .word-of2 .ok)) (status-small start) (status .word-of2 .ensures) in
     let v = head-number (sfits-of (verdict .word-of3 .ok)) (verdict-small start) (verdict .word-of3 .ensures) in
-    form-placed (stateOf (start .args .chart)) _ fits (λ i. k i ∷ s i ∷ v i ∷ []) (first .put-record .ensures) (second .put-record2 .ensures) (third .put-record3 .ensures)
+    form-placed (stateOf (start .args .chart)) _ fits (λ i. k i ∷ s i ∷ v i ∷ [])
+    (first .put-record .ensures) (second .put-record2 .ensures) (third .put-record3 .ensures)
 
 pub put-form-spec : {M : Type 1} → statement M
 put-form-spec =

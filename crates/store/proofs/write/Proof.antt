@@ -54,7 +54,8 @@ returns-3 c =
     let put = c .before .before in
     let tested = put .before .before in
     let known = tested .before .before in
-    write-done _ (facts known) _ _ _ (is-sound known) (omega (arith, tested .if2 .left, tested .before .form-size .ensures)) (put .put-form .ensures)
+    let room = tested .before .form-size .ensures in
+    write-done _ (facts known) _ _ _ (is-sound known) (omega (arith, tested .if2 .left)) (put .put-form .ensures)
 
 pub write-spec : {M : Type 1} → statement M
 write-spec = tie.close (tie.spec sound-requires returns form-size-requires returns-2 put-form-requires same-length returns-3)

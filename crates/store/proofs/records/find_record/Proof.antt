@@ -32,7 +32,8 @@ enum-told c = search needs
 returns : tie.Need-returns
 returns c =
     let a = c .before .before .before .before .args in
-    no-record (a .record-kind) (a .least) (a .most) (a .cursor .at) (a .bytes .now) (c .before .before .see-record-at .ensures) (c .enum-told .given .1)
+    no-record (a .record-kind) (a .least) (a .most) (a .cursor .at) (a .bytes .now)
+    (c .before .before .see-record-at .ensures) (c .enum-told .given .1)
 
 returns-2 : tie.Need-returns-2
 returns-2 c =
