@@ -8,7 +8,6 @@ use libc::STDOUT_FILENO;
 use store::ReadAnswer;
 use store::ReadChart;
 use store::WriteAnswer;
-use store::numbers::put_number;
 ghost use mathlib.Core.Path.{_≡_};
 ghost use Prim.Native.Nat.{_+_, _-_, _≤_, _<_};
 ghost use lib.ListN.{length, take};
@@ -96,10 +95,11 @@ fn encoded(numbers: &[u16]) -> [u8; 1024]
     ensures { λ r. ⌜ r ≡ pad 0 1024 (bytesOf (now (numbers .entry))) ⌝ }
 {
     let mut bytes = [0u8; 1024];
-    let mut next: usize = 0;
     let mut i: usize = 0;
     while i < numbers.len() {
-        next = put_number(&mut bytes, next, numbers[i]);
+        let n = numbers[i];
+        bytes[2 * i] = (n % 256) as u8;
+        bytes[2 * i + 1] = (n / 256) as u8;
         i += 1;
     }
     bytes
