@@ -305,7 +305,7 @@ fn counts() -> ReadChart
 
 // A head that is whole, but of two numbers or of four.
 fn head_sizes() -> ReadChart
-    ensures { λ r. ⌜ Reads (take 20 longHead) r ⌝ }
+    ensures { λ r. ⌜ Reads longHead r ⌝ }
 {
     let mut form = [1000; 20];
     put_numbers(&mut form, 0, &[6, 1, 2, 0, 22, 2]);

@@ -1,5 +1,5 @@
--- Laws of reading: what a layout that was found tells (`laid-out`), the chart that three records hold (`chart-held`), and reading's contract
--- in each of its cases (`read-no-form`, `read-unsound`, `read-done`).
+-- Laws of reading: what a layout that was found tells (`laid-out`), the chart that three records hold (`chart-held`), and reading's
+-- contract in each of its cases (`read-no-form`, `read-unsound`, `read-done`).
 use mathlib.Core.Path.{_≡_, refl, sym, ap, ap₂, _∙_}
 use mathlib.Core.Bool.{Bool, true, false}
 use mathlib.Core.List.{List, _++_, map}

@@ -1,9 +1,8 @@
 -- `course::forms::head_sizes` meets its contract.
-use mathlib.Core.Path.{_≡_, sym, ap, _∙_}
+use mathlib.Core.Path.{_≡_}
 use native.Mathlib.Omega.{arith}
 use borrow.Author.Needs.{needs}
-use lib.ListN.{take, length-take}
-use lib.Seq.{take-all}
+use lib.ListN.{length-take}
 use Rattle.course.specs.Forms.{longHead}
 use Rattle.course.proofs.forms.head_sizes.Statement.{statement}
 use Rattle.course.proofs.forms.head_sizes.Tie as tie
@@ -73,9 +72,7 @@ form-is c = rw (c .put-numbers4 .ensures .buffer, c .before .before .before .bef
 returns : tie.Need-returns
 returns c =
     let fourth = c .before .before .before .before in
-    let form = fourth .put-numbers4 .last .0 in
-    let whole : take 20 longHead ≡ form = ap (take 20) (sym (form-is fourth)) ∙ take-all 20 form (omega arith) in
-    rw whole (c .show-form2 .ensures)
+    rw (← form-is fourth) (c .show-form2 .ensures)
 
 pub head-sizes-spec : {M : Type 1} → statement M
 head-sizes-spec =
