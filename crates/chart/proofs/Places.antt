@@ -39,6 +39,14 @@ module _ {ℓ} {A : Type ℓ} (filler : A) (size : ℕ) where
       let n : i ≡ length (take i l) = sym (length-take-le i l (omega arith)) in
       pad-snoc (take i l) (getD l i d) i n (omega arith) ∙ ap (pad filler size) (sym (rw (add-one, take-suc l i d)))
 
+-- the places that are left of equal ones
+pub drop-replicate {ℓ} : {A : Type ℓ} (n size : ℕ) (x : A) → drop n (replicate size x) ≡ replicate (size - n) x
+drop-replicate zero size x = let none : size ≡ size - 0 = omega arith in ap (λ (k : ℕ). replicate k x) none
+drop-replicate (suc n) zero x = let none : 0 ≡ 0 - suc n = omega arith in ap (λ (k : ℕ). replicate k x) none
+drop-replicate (suc n) (suc size) x =
+    let one : size - n ≡ suc size - suc n = omega arith in
+    drop-replicate n size x ∙ ap (λ (k : ℕ). replicate k x) one
+
 -- the first of the first
 pub take-fewer {ℓ} : {A : Type ℓ} (i n : ℕ) (l : List A) → i ≤ n → take i (take n l) ≡ take i l
 take-fewer zero n l h = refl

@@ -10,7 +10,7 @@ use lib.Seq.{paste, take-suc, take-length, take-append-seam, drop-append-add}
 use Rattle.guide.specs.Bytes.{bytesOf}
 use Rattle.guide.proofs.Bytes.{length-bytes, bytes-joined}
 use Rattle.chart.specs.Pad.{pad}
-use Rattle.chart.proofs.Places.{take-pad}
+use Rattle.chart.proofs.Places.{take-pad, drop-replicate}
 use Rattle.store.specs.Placed.{overwritten, Placed}
 use Rattle.course.specs.Forms.{exchange, exchangedIn}
 
@@ -23,13 +23,6 @@ numbers-placed form at numbers n e =
 
 -- ---- the bytes of numbers, with 0 after them
 
-drop-zeros : (n size : ℕ) → drop {A = ℕ} n (replicate size 0) ≡ replicate (size - n) 0
-drop-zeros zero size = let none : size ≡ size - 0 = omega arith in ap (λ (k : ℕ). replicate k 0) none
-drop-zeros (suc n) zero = let none : 0 ≡ 0 - suc n = omega arith in ap (λ (k : ℕ). replicate k 0) none
-drop-zeros (suc n) (suc size) =
-    let one : size - n ≡ suc size - suc n = omega arith in
-    drop-zeros n size ∙ ap (λ (k : ℕ). replicate k 0) one
-
 -- bytes put behind others
 padded-then : (size : ℕ) (x y : List ℕ) → overwritten (pad 0 size x) (length x) y ≡ pad 0 size (x ++ y)
 unfolding overwritten pad
@@ -37,7 +30,7 @@ padded-then size x y =
     let zeros : List ℕ = replicate (size - length x) 0 in
     let fewer : size - length x - length y ≡ size - length (x ++ y) = omega (arith, length-append x y) in
     let rest : drop (length x + length y) (x ++ zeros) ≡ replicate (size - length (x ++ y)) 0 =
-    drop-append-add x zeros (length y) ∙ (drop-zeros (length y) (size - length x) ∙ ap (λ (k : ℕ). replicate k 0) fewer) in
+    drop-append-add x zeros (length y) ∙ (drop-replicate (length y) (size - length x) 0 ∙ ap (λ (k : ℕ). replicate k 0) fewer) in
     rw (take-append-seam x zeros, rest) (simp append-assoc)
 
 -- one number more

@@ -3,7 +3,7 @@
 use mathlib.Core.Path.{_≡_, refl, sym, ap, ap₂, _∙_}
 use mathlib.Core.Bool.{Bool, true, false}
 use mathlib.Core.List.{List, _++_, map}
-use Prim.Native.Nat.{ℕ, zero, suc, _-_, _≤_}
+use Prim.Native.Nat.{ℕ, _-_, _≤_}
 use native.Mathlib.Omega.{arith}
 use lib.IntN.{ℤ, pos}
 use lib.ListN.{length, drop, getD, replicate, length-map}
@@ -21,6 +21,7 @@ use Rattle.chart.specs.Pad.{pad}
 use Rattle.chart.specs.declared.Chart.{Chart}
 use Rattle.chart.specs.Chart.{stateOf, chartOf}
 use Rattle.chart.specs.Soundness.{soundChart}
+use Rattle.chart.proofs.Places.{drop-replicate}
 use Rattle.chart.proofs.SoundCharts.{sound-chart-facts}
 use Rattle.chart.proofs.State.{state-of-chart}
 use Rattle.chart.proofs.Runs.{sound-chart-of}
@@ -31,13 +32,6 @@ use Rattle.store.specs.declared.ReadChart.{ReadChart}
 use Rattle.store.specs.Records.{placeAt, headPlace, basePlace, seriesPlace, layoutOf, numbersAt, LiesWithin, filledFrom}
 use Rattle.store.specs.Store.{readSays, chartAfterReading, IsRead}
 use Rattle.store.proofs.RecordsIn.{record-facts, after-place, length-numbers-at}
-
-drop-zeros : (n size : ℕ) → drop n (replicate size (pos 0)) ≡ replicate (size - n) (pos 0)
-drop-zeros zero size = let none : size ≡ size - 0 = omega arith in ap (λ (k : ℕ). replicate k (pos 0)) none
-drop-zeros (suc n) zero = let none : 0 ≡ 0 - suc n = omega arith in ap (λ (k : ℕ). replicate k (pos 0)) none
-drop-zeros (suc n) (suc size) =
-    let one : size - n ≡ suc size - suc n = omega arith in
-    drop-zeros n size ∙ ap (λ (k : ℕ). replicate k (pos 0)) one
 
 -- ---- the record at a place
 
@@ -135,7 +129,7 @@ module _ (bytes : List ℕ) (head base series : Place) (l : Laid bytes head base
   unfolding pad filledFrom
   words-padded p size places ws filled is =
       let unused : drop (p .count) (replicate size (pos 0)) ≡ replicate (size - length ws) (pos 0) =
-      drop-zeros (p .count) size ∙ ap (λ (k : ℕ). replicate (size - k) (pos 0)) (words-count p ws is) in
+      drop-replicate (p .count) size (pos 0) ∙ ap (λ (k : ℕ). replicate (size - k) (pos 0)) (words-count p ws is) in
       filled ∙ ap₂ (λ (x y : List ℤ). x ++ y) is unused
 
   pub chart-held : (kind status verdict : ℕ) (base-words series-words : List ℤ)

@@ -34,6 +34,7 @@ writeSays (write.Refused n) = form.refused n
 unfoldable pub answerToWrite : Chart → List ℕ → WritingAnswer
 answerToWrite c buffer = require (soundChart c) (form.refused 14) (writing (stateOf c) buffer)
 
+-- the buffer then; with 14, as with 15, it is as it was
 unfoldable pub bufferAfterWrite : Chart → List ℕ → List ℕ
 bufferAfterWrite c buffer = require (soundChart c) buffer (bufferAfter (stateOf c) buffer)
 
@@ -54,7 +55,8 @@ unfoldable pub chartAfterReading : ReadingAnswer → Chart
 chartAfterReading (taken s) = chartOf s
 chartAfterReading (refused n) = zeroChart
 
--- r says what reading's answer a says, and its chart is the one that goes with it
+-- r says what reading's answer a says, and its chart is the one that goes with it. The contract of reading is this of the answer that
+-- `Reading.reading` gives for the bytes
 pub record IsRead (a : ReadingAnswer) (r : ReadChart) : Type 0 where
   pub chart : r .chart ≡ chartAfterReading a
   pub says : readSays (r .chart) (r .answer) ≡ a
@@ -72,6 +74,7 @@ answerToReturn c buffer =
 unfoldable pub chartReturned : Chart → List ℕ → Chart
 chartReturned c buffer = choose (soundChart c && hasRoom (stateOf c) buffer) c zeroChart
 
+-- the contract of writing and reading back: the chart, the answer, and every byte of the buffer
 pub record Returns (c : Chart) (before after : List ℕ) (r : ReadChart) : Type 0 where
   pub chart : r .chart ≡ chartReturned c before
   pub says : readSays (r .chart) (r .answer) ≡ answerToReturn c before

@@ -7,6 +7,7 @@ use Prim.Native.Nat.{_+_, _*_, _<_, _≤_}
 use lib.ListN.{length, take, length-map}
 use Rattle.guide.specs.Bytes.{numberOf}
 use Rattle.guide.specs.StoredForm.{headNumbers, storedForm}
+use Rattle.guide.specs.Reading.{headCount}
 use Rattle.chart.specs.Chart.{stateOf}
 use Rattle.chart.proofs.State.{Given, given, base-fits, series-fits, base-count, series-count}
 use Rattle.store.specs.Store.{recordSize, formSize}
@@ -18,7 +19,8 @@ sound-chart : (c : tie.Start) → Given (c .args .chart)
 sound-chart c = given (c .args .chart) (search needs) (search needs) (c .pre .0)
 
 -- the room that there is, as numbers
-room : (c : tie.Start) → 10 + (4 + 2 * c .args .chart .«base_len») + (4 + 2 * c .args .chart .«series_len») ≤ length (c .args .out .now)
+room : (c : tie.Start)
+    → (4 + 2 * headCount) + (4 + 2 * c .args .chart .«base_len») + (4 + 2 * c .args .chart .«series_len») ≤ length (c .args .out .now)
 unfolding formSize recordSize
 room c = c .pre .1
 
