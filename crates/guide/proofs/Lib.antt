@@ -1,6 +1,7 @@
 -- Laws of truth values and integers, and of numbers as the machine holds them; then the laws about the paper's definitions.
 pub mod Integers
 pub mod Held
+pub mod Complement
 pub mod Booleans
 pub mod Choice
 pub mod AllOf

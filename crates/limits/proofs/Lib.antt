@@ -1,4 +1,3 @@
-mod Complement
 mod Spread
 mod Deviation
 mod Summing

@@ -1,7 +1,6 @@
--- Laws of numbers in two bytes, as the code makes them: a word's number (`below-zero`, `from-zero`), a number's word (`word-is`), the
--- number at a place (`number-is`), words put one behind the other (`words-put`, `words-then`), a record put in parts (`record-placed`).
-use mathlib.Core.Path.{_≡_, sym, _∙_}
-use mathlib.Core.Bool.{true, false, false≢true}
+-- Laws of numbers in two bytes, as the code makes them: a word's number (`bits-are`), a number's word (`word-is`), the number at a byte
+-- (`number-is`), words put one behind the other (`words-put`, `words-then`), a record put in parts (`record-placed`).
+use mathlib.Core.Path.{_≡_, refl, _∙_}
 use mathlib.Core.List.{List, [], _∷_, map, map-append}
 use Prim.Native.Nat.{ℕ, suc, _+_, _*_, _-_, _<_, _≤_}
 use native.Mathlib.Omega.{arith}
@@ -10,12 +9,8 @@ use lib.ListN.{length, take, drop, getD, length-map, length-take}
 use lib.Seq.{take-suc, getD-drop}
 use lib.IntN.{ℤ, pos, negsuc}
 use lib.Dec.{ltb}
-use lib.Signed.{ltZ}
 use mir.Syntax.{w16}
-use mir.Val.{SFits, toZ, ofZ}
-use mir.Facts.{toZ-ofZ}
-use mir.ValLaws.{toZ-pos}
-use borrow.Author.Tests.{ltb-true}
+use mir.Val.{toZ, ofZ}
 use Rattle.guide.specs.Bytes.{bytesOf, numberIn, numberOf, wordOf}
 use Rattle.guide.specs.StoredForm.{recordOf}
 use Rattle.guide.proofs.Booleans.{by-test}
@@ -26,28 +21,11 @@ use Rattle.store.proofs.Placed.{placed-then, placed-length}
 
 -- ---- words and their numbers
 
--- of a word w below 0, `!w` is what its number lacks of 65535
-pub record BelowZero (w : ℤ) : Type 0 where
-  pub complement : toZ w16 (65535 - ofZ w16 w) ≡ pos (65535 - numberOf w)
-  pub fits : numberOf w ≤ 65535
-
-pub below-zero : (w : ℤ) → SFits w16 w → ltZ (toZ w16 (ofZ w16 w)) (pos 0) ≡ true → BelowZero w
+-- the number that stands for a word has the word's bits
+pub bits-are : (w : ℤ) → ofZ w16 w ≡ numberOf w
 unfolding numberOf
-below-zero (pos n) h t = let u : ltZ (pos n) (pos 0) ≡ true = rw (toZ-ofZ h) at t in absurd (omega (arith, ltb-true n 0 u))
-below-zero (negsuc n) h t =
-    let few : n < 32768 = h .sfits in
-    let bits : 65535 - (65536 - suc n) ≡ n = omega arith in
-    record { complement = rw bits (toZ-pos w16 n few); fits = omega arith }
-
--- any other word is its number
-pub record FromZero (w : ℤ) : Type 0 where
-  pub same : toZ w16 (ofZ w16 w) ≡ pos (numberOf w)
-  pub fits : numberOf w < 32768
-
-pub from-zero : (w : ℤ) → SFits w16 w → ltZ (toZ w16 (ofZ w16 w)) (pos 0) ≡ false → FromZero w
-unfolding numberOf
-from-zero (pos n) h t = record { same = toZ-ofZ h; fits = h .sfits }
-from-zero (negsuc n) h t = let u : true ≡ false = rw (toZ-ofZ h) at t in absurd (false≢true (sym u))
+bits-are (pos n) = refl
+bits-are (negsuc n) = refl
 
 -- a number's word has the number's bits
 pub word-is : (n : ℕ) → n < 65536 → toZ w16 n ≡ wordOf n
@@ -59,7 +37,7 @@ word-is n h =
     let magnitude : 65536 - n ≡ suc (65536 - suc n) = omega arith in
     rw (t, magnitude))
 
--- ---- the number at a place
+-- ---- the number at a byte
 
 pub number-is : (bytes : List ℕ) (at : ℕ) → getD bytes at 0 + 256 * getD bytes (at + 1) 0 ≡ numberIn (drop at bytes)
 unfolding numberIn
