@@ -1,6 +1,6 @@
 -- Laws of the numbers of a stored form: put in the place of others (`numbers-placed`), made into bytes one behind the other (`bytes-next`,
 -- `bytes-whole`), and with their two bytes exchanged (`exchanged-next`).
-use mathlib.Core.Path.{_≡_, sym, ap, _∙_}
+use mathlib.Core.Path.{_≡_, refl, sym, ap, _∙_}
 use mathlib.Core.List.{List, [], _∷_, _++_, append-assoc}
 use Prim.Native.Nat.{ℕ, zero, suc, _+_, _*_, _-_, _/_, _%_, _<_, _≤_}
 use native.Mathlib.Omega.{arith}
@@ -20,6 +20,12 @@ pub numbers-placed : (form : List ℕ) (at : ℕ) (numbers : List ℕ) (n : ℕ)
 unfolding overwritten
 numbers-placed form at numbers n e =
     record { buffer = rw (e, take-length) (simp append-assoc); place = ap (λ (k : ℕ). at + k) e }
+
+-- the first of equal places
+pub take-replicate : (n size x : ℕ) → n ≤ size → take n (replicate size x) ≡ replicate n x
+take-replicate zero size x h = refl
+take-replicate (suc n) zero x h = absurd (omega arith)
+take-replicate (suc n) (suc size) x h = ap (λ (l : List ℕ). x ∷ l) (take-replicate n size x (omega arith))
 
 -- ---- the bytes of numbers, with 0 after them
 

@@ -1,6 +1,5 @@
 // The stored forms that are run: those of charts, and damaged ones, in which a length, a kind, a count, the order, the size or a
-// word is another. Each function answers what its last case does, or how many cases its last list
-// has.
+// word is another. Each function answers what its last case does, or how many cases its last list has.
 use crate::chart_on;
 use crate::fill_front;
 use crate::stored::form_around;
@@ -24,7 +23,7 @@ ghost use Rattle.course.specs.Course.{resized};
 ghost use Rattle.course.specs.Forms.{Reads, ComesBack, afterWarning, full, untouched};
 ghost use Rattle.course.specs.Forms.{aroundForm, plainForm, longHead, orderedForm, exchangedIn};
 
-// The numbers that a form without series words has.
+// How many numbers the form of fifteen base words and no series words has.
 const COUNT: usize = 24;
 
 pub fn stored_forms(a: Chart) -> ReadChart
@@ -73,34 +72,23 @@ fn written(spike: Chart) -> WriteAnswer
     let mut words = [10000; 15];
     fill_front(&mut words, 7, 4135);
     let low = chart_on(2, &words);
-    let mut lent = [170u8; 48];
     show_write(
         b"4135 seven times and 10000 eight times, 48 bytes lent: ",
         low,
-        &mut lent,
+        48,
     );
-    let mut lent = [170u8; 48];
-    show_write(
-        b"-313 fifteen times, kind 3, 48 bytes lent: ",
-        spike,
-        &mut lent,
-    )
+    show_write(b"-313 fifteen times, kind 3, 48 bytes lent: ", spike, 48)
 }
 
 // A needs 48 bytes, and 4 more with two words in the series.
 fn rooms(a: Chart, due: Chart) -> WriteAnswer
     ensures { λ r. ⌜ writeSays r ≡ answerToWrite due (untouched 52) ⌝ }
 {
-    let mut lent = [170u8; 48];
-    show_write(b"A, 48 bytes lent: ", a, &mut lent);
-    let mut lent = [170u8; 50];
-    show_write(b"A, 50 bytes lent: ", a, &mut lent);
-    let mut lent = [170u8; 47];
-    show_write(b"A, 47 bytes lent: ", a, &mut lent);
-    let mut lent = [170u8; 9];
-    show_write(b"A, 9 bytes lent: ", a, &mut lent);
-    let mut lent = [170u8; 52];
-    show_write(b"A after 10250 10210, 52 bytes lent: ", due, &mut lent)
+    show_write(b"A, 48 bytes lent: ", a, 48);
+    show_write(b"A, 50 bytes lent: ", a, 50);
+    show_write(b"A, 47 bytes lent: ", a, 47);
+    show_write(b"A, 9 bytes lent: ", a, 9);
+    show_write(b"A after 10250 10210, 52 bytes lent: ", due, 52)
 }
 
 // Charts that are not sound.
@@ -109,25 +97,19 @@ fn declined(a: Chart) -> WriteAnswer
 {
     let mut bad = a;
     bad.kind = 4;
-    let mut lent = [170u8; 9];
-    show_write(b"A with kind 4, 9 bytes lent: ", bad, &mut lent);
-    let mut lent = [170u8; 50];
-    show_write(b"A with kind 4, 50 bytes lent: ", bad, &mut lent);
+    show_write(b"A with kind 4, 9 bytes lent: ", bad, 9);
+    show_write(b"A with kind 4, 50 bytes lent: ", bad, 50);
     let mut bad = a;
     bad.base_len = 33;
-    let mut lent = [170u8; 50];
-    show_write(b"A with a base of 33, 50 bytes lent: ", bad, &mut lent)
+    show_write(b"A with a base of 33, 50 bytes lent: ", bad, 50)
 }
 
 fn returned(a: Chart, due: Chart, spike: Chart) -> ReadChart
     ensures { λ r. ⌜ ComesBack spike (untouched 1024) r ⌝ }
 {
-    let mut lent = [170u8; 1024];
-    show_return(b"A, read back: ", a, &mut lent);
-    let mut lent = [170u8; 1024];
-    show_return(b"A after 10250 10210, read back: ", due, &mut lent);
-    let mut lent = [170u8; 1024];
-    show_return(b"-313 fifteen times, kind 3, read back: ", spike, &mut lent)
+    show_return(b"A, read back: ", a, 1024);
+    show_return(b"A after 10250 10210, read back: ", due, 1024);
+    show_return(b"-313 fifteen times, kind 3, read back: ", spike, 1024)
 }
 
 // The shortest base and the longest series.
@@ -135,17 +117,15 @@ fn edges_returned(a: Chart) -> ReadChart
     ensures { λ r. ⌜ ComesBack (full a) (untouched 1024) r ⌝ }
 {
     let ten = chart_on(1, &[0, 0, 0, 0, 0, 0, 0, 0, 0, 0, 1, 12, 144, 1728, 20000]);
-    let mut lent = [170u8; 1024];
     show_return(
         b"0 ten times, 1, 12, 144, 1728, 20000, kind 1, read back: ",
         ten,
-        &mut lent,
+        1024,
     );
     let mut full = a;
     full.series = [10000; Chart::SERIES_MOST];
     full.series_len = Chart::SERIES_MOST;
-    let mut lent = [170u8; 1024];
-    show_return(b"A after 366 posts, read back: ", full, &mut lent)
+    show_return(b"A after 366 posts, read back: ", full, 1024)
 }
 
 // A chart and a buffer that writing declines.
@@ -154,10 +134,8 @@ fn none_returned(a: Chart) -> ReadChart
 {
     let mut bad = a;
     bad.kind = 4;
-    let mut lent = [170u8; 1024];
-    show_return(b"A with kind 4, read back: ", bad, &mut lent);
-    let mut short = [170u8; 47];
-    show_return(b"A, read back by way of 47 bytes: ", a, &mut short)
+    show_return(b"A with kind 4, read back: ", bad, 1024);
+    show_return(b"A, read back by way of 47 bytes: ", a, 47)
 }
 
 // The numbers of the first record.

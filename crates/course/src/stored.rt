@@ -14,11 +14,19 @@ ghost use lib.ListN.{length, take};
 ghost use Rattle.guide.specs.Bytes.{bytesOf};
 ghost use Rattle.chart.specs.Pad.{pad};
 ghost use Rattle.store.specs.Placed.{Placed};
-ghost use Rattle.store.specs.Store.{Writes, Returns};
-ghost use Rattle.course.specs.Forms.{Reads, plainForm, orderedForm, aroundForm, exchangedIn};
+ghost use Rattle.store.specs.Store.{writeSays, answerToWrite, Writes, Returns};
+ghost use Rattle.course.specs.Forms.{untouched, Reads, ComesBack, plainForm, orderedForm, aroundForm, exchangedIn};
 
-// Writes the chart into the lent bytes, and prints the answer and every lent byte.
-pub fn show_write(text: &[u8], chart: Chart, lent: &mut [u8]) -> WriteAnswer
+// Writes the chart into n lent bytes, all aa, and prints the answer and every lent byte.
+pub fn show_write(text: &[u8], chart: Chart, n: usize) -> WriteAnswer
+    requires { ⌜ n ≤ 64 ⌝ }
+    ensures { λ r. ⌜ writeSays r ≡ answerToWrite chart (untouched n) ⌝ }
+{
+    let mut lent = [170u8; 64];
+    show_write_to(text, chart, &mut lent[..n])
+}
+
+fn show_write_to(text: &[u8], chart: Chart, lent: &mut [u8]) -> WriteAnswer
     ensures { λ r. ⌜ Writes chart (now (lent .entry)) (now (lent .exit)) r ⌝ }
 {
     io::write_all(STDOUT_FILENO, text);
@@ -51,8 +59,16 @@ fn show_bytes(bytes: &[u8]) -> usize
     i
 }
 
-// Writes the chart into the lent bytes, reads it back and prints it.
-pub fn show_return(text: &[u8], chart: Chart, lent: &mut [u8]) -> ReadChart
+// Writes the chart into n lent bytes, reads it back and prints it.
+pub fn show_return(text: &[u8], chart: Chart, n: usize) -> ReadChart
+    requires { ⌜ n ≤ 1024 ⌝ }
+    ensures { λ r. ⌜ ComesBack chart (untouched n) r ⌝ }
+{
+    let mut lent = [170u8; 1024];
+    show_return_by(text, chart, &mut lent[..n])
+}
+
+fn show_return_by(text: &[u8], chart: Chart, lent: &mut [u8]) -> ReadChart
     ensures { λ r. ⌜ Returns chart (now (lent .entry)) (now (lent .exit)) r ⌝ }
 {
     io::write_all(STDOUT_FILENO, text);

@@ -1,60 +1,29 @@
--- `course::stored::show_write` meets its contract.
-use mathlib.Core.Path.{sym, _∙_}
-use mathlib.Core.Logic.{⊎-elim}
+-- `course::stored::show_write` meets its contract: the first n of equal bytes are lent.
 use borrow.Author.Needs.{needs}
+use native.Mathlib.Omega.{arith}
+use mathlib.Core.Path.{ap, _∙_}
+use lib.ListN.{length-take}
+use Rattle.store.specs.Store.{answerToWrite}
+use Rattle.course.specs.Forms.{untouched}
+use Rattle.course.proofs.Numbers.{take-replicate}
 use Rattle.course.proofs.stored.show_write.Statement.{statement}
 use Rattle.course.proofs.stored.show_write.Tie as tie
 
-write-all-requires : tie.Need-write-all-requires
-write-all-requires c κs = search needs
+array-borrow-prefix-lent : tie.Need-array-borrow-prefix-lent
+array-borrow-prefix-lent c = search needs
 
-write-requires : tie.Need-write-requires
-write-requires c κs = search needs
+slice-aggregate-show-write-to : tie.Need-slice-aggregate-show-write-to
+slice-aggregate-show-write-to c = simp length-take (omega arith)
 
-enum-known-answer : tie.Need-enum-known-answer
-enum-known-answer c = search needs
-
-slice-aggregate-write-all : tie.Need-slice-aggregate-write-all
-slice-aggregate-write-all c = search needs
-
-write-all-requires-2 : tie.Need-write-all-requires-2
-write-all-requires-2 c κs = search needs
-
-show-decimal-requires : tie.Need-show-decimal-requires
-show-decimal-requires c κs = search needs
-
-enum-known-answer-2 : tie.Need-enum-known-answer-2
-enum-known-answer-2 c = search needs
-
-show-refusal-requires : tie.Need-show-refusal-requires
-show-refusal-requires c κs = search needs
-
-show-bytes-requires : tie.Need-show-bytes-requires
-show-bytes-requires c κs = search needs
-
-same-length : tie.Need-same-length
-same-length c = search needs
+show-write-to-requires : tie.Need-show-write-to-requires
+show-write-to-requires c κs = search needs
 
 returns : tie.Need-returns
+unfolding untouched
 returns c =
-    let called = c .before .before .before .before .before in
-    ⊎-elim
-    (λ v. rw (v .6 ∙ sym (v .1 .given .1)) (called .write .ensures))
-    (λ v. rw (v .4 ∙ sym (v .1 .given .1)) (called .write .ensures))
-    (c .before .before .match .came)
+    let a = c .before .before .before .before .args in
+    let lent = take-replicate (a .n) 64 170 (c .before .before .before .before .pre) in
+    c .before .show-write-to .ensures .says ∙ ap (answerToWrite (a .chart)) lent
 
 pub show-write-spec : {M : Type 1} → statement M
-show-write-spec =
-    tie.close
-    (tie.spec
-    write-all-requires
-    write-requires
-    enum-known-answer
-    slice-aggregate-write-all
-    write-all-requires-2
-    show-decimal-requires
-    enum-known-answer-2
-    show-refusal-requires
-    show-bytes-requires
-    same-length
-    returns)
+show-write-spec = tie.close (tie.spec array-borrow-prefix-lent slice-aggregate-show-write-to show-write-to-requires returns)
