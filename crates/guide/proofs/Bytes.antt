@@ -30,7 +30,7 @@ length-bytes (n ∷ ns) = rw (length-bytes ns) (omega arith)
 pub bytes-joined : (xs ys : List ℕ) → bytesOf (xs ++ ys) ≡ bytesOf xs ++ bytesOf ys
 unfolding bytesOf
 bytes-joined [] ys = refl
-bytes-joined (x ∷ xs) ys = ap (λ (l : List ℕ). x % 256 ∷ x / 256 ∷ l) (bytes-joined xs ys)
+bytes-joined (x ∷ xs) ys = ap (λ (l : List ℕ). bytesOf (x ∷ []) ++ l) (bytes-joined xs ys)
 
 -- the first number is read from its bytes, and the bytes of the others follow
 pub number-there : (n : ℕ) (ns rest : List ℕ) → numberIn (bytesOf (n ∷ ns) ++ rest) ≡ n
