@@ -16,4 +16,9 @@ pub mod Machine
 pub mod Bytes
 pub mod StoredForm
 pub mod Reading
+pub mod SquareRoot
+pub mod Double
+pub mod Lines
+pub mod Drawing
+pub mod Lists
 pub mod Figures

@@ -14,9 +14,9 @@ ghost use Rattle.limits.specs.Sums.{sumsSay, limitsSay, AreSums, AreLimi
 ghost use Rattle.limits.specs.Sums.{IsBeyondWarning, IsSide};
 
 // Control limits are the mean ± 3S, warning limits the mean ± 2S.
-const CONTROL: u8 = 3;
+pub const CONTROL: u8 = 3;
 
-const WARNING: u8 = 2;
+pub const WARNING: u8 = 2;
 
 // The number n of words, their sum T, and the sum Q of their squares. V = n·Q − T² is worked out from these.
 pub struct Sums {
@@ -123,7 +123,7 @@ pub fn beyond(m: u8, l: Limits, w: i16) -> BeyondLimits
     }
 }
 
-fn has_lower(kind: u16) -> bool
+pub fn has_lower(kind: u16) -> bool
     ensures { λ r. ⌜ r ≡ hasLower kind ⌝ }
 {
     (kind == 2) | (kind == 3)
@@ -169,7 +169,7 @@ fn squares_of(m: u16, s: Sums, d: i64) -> Squares
 }
 
 // V = n·Q − T²
-fn v_of(s: Sums) -> u64
+pub fn v_of(s: Sums) -> u64
     requires { ⌜ Bounded s ⌝ }
     ensures { λ r. ⌜ pos r ≡ guide.vOf (sumsSay s) ⌝ }
 {

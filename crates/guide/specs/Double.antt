@@ -1,0 +1,33 @@
+-- Document 01, "Lines for the plotter": "Lines are binary64", and "the whole number k of 256ths that the double's bits denote (k = 0 is
+-- +0.0)". A value of `Float` that fits binary64 and the bits of a double are one for one. `HasValue x negative a c`, of `lib.Ieee.Exact`: x is finite, negative
+-- by its sign or not, and of the size a / c.
+use mathlib.Core.Bool.{Bool, true, false}
+use Prim.Native.Nat.{ℕ, suc, _*_, _/_}
+use lib.IntN.{ℤ, pos, negsuc, negℤ}
+use lib.Ieee.{Float, nan, inf, fin, up, down, odd}
+use lib.Ieee.Exact.{HasValue}
+use Rattle.guide.specs.Sizes.{lineParts}
+use Rattle.guide.specs.Choice.{choose}
+
+-- x is z / c, with z's sign: at 0 it is +0.0, and not −0.0
+abbrev pub IsRatio : Float → ℤ → ℕ → Type 0
+IsRatio x (pos n) c = HasValue x false n c
+IsRatio x (negsuc n) c = HasValue x true (suc n) c
+
+-- x denotes k / 256
+abbrev pub Denotes : Float → ℤ → Type 0
+Denotes x k = IsRatio x k lineParts
+
+-- the double that denotes k / 256, for a k of at most 53 binary digits: k times 2 ^ 1066 of the smallest doubles, each of which is
+-- 2 ^ −1074. `odd 53 s n i j` is n · 2 ^ i / 2 ^ j with the sign s. `proofs/Double` has that it denotes k / 256, and that no other does
+unfoldable pub doubleOf : ℤ → Float
+doubleOf (pos n) = odd 53 false n 1066 1074
+doubleOf (negsuc n) = odd 53 true (suc n) 1066 1074
+
+-- k, where x denotes k / 256: 256 · x, without what is left of a whole number. A finite x is m · 2 ^ e, and 2 ^ e is `up e / down e`.
+unfoldable pub partsIn : Float → ℤ
+partsIn nan = pos 0
+partsIn (inf negative) = pos 0
+partsIn (fin negative m e) =
+    let n = m * up e * lineParts / down e in
+    choose negative (negℤ (pos n)) (pos n)

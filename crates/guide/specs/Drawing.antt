@@ -1,0 +1,120 @@
+-- Document 01, "Lines for the plotter": the lines of a chart, as doubles, and a word against them.
+use mathlib.Core.Path.{_≡_}
+use mathlib.Core.Bool.{Bool, true, false}
+use Prim.Native.Nat.{ℕ}
+use lib.IntN.{ℤ, pos, _+ℤ_, _-ℤ_, _*ℤ_}
+use lib.Signed.{ltZ}
+use lib.Ieee.{Float}
+use Rattle.guide.specs.Choice.{choose}
+use Rattle.guide.specs.Sizes.{lineParts}
+use Rattle.guide.specs.Kind.{hasLower}
+use Rattle.guide.specs.Limits.{Sums, Limits, above, below, controlMultiple, warningMultiple, beyondUpper, beyondLower}
+use Rattle.guide.specs.Double.{doubleOf, partsIn}
+use Rattle.guide.specs.Lines.{partsAbove, partsBelow, partsAboveMean, IsUpperLine, IsLowerLine, IsMeanLine}
+use Rattle.guide.specs.Lines.{upperLine, lowerLine, meanLine}
+
+-- "mean and two upper limits for kind 1 (the lower line, always 0.0, is not carried), a struct of five doubles otherwise"
+pub data Lines : Type 0 where
+  duplicate : (mean upperWarning upperControl : Float) → Lines
+  twoSided : (mean lowerWarning upperWarning lowerControl upperControl : Float) → Lines
+
+-- the lines, or the number for what is declined. 14 is decided of the chart that is handed in: `lines/specs/Lines`
+pub data DrawingAnswer : Type 0 where
+  drawn : Lines → DrawingAnswer
+  refused : ℕ → DrawingAnswer
+
+-- the lines that limits give
+unfoldable pub linesOf : Limits → Lines
+linesOf limits =
+    let s = limits .sums in
+    let mean = doubleOf (meanLine s) in
+    let upperWarning = doubleOf (upperLine warningMultiple s) in
+    let upperControl = doubleOf (upperLine controlMultiple s) in
+    let lowerWarning = doubleOf (lowerLine warningMultiple s) in
+    let lowerControl = doubleOf (lowerLine controlMultiple s) in
+    choose (hasLower (limits .kind))
+    (twoSided mean lowerWarning upperWarning lowerControl upperControl)
+    (duplicate mean upperWarning upperControl)
+
+-- ---- a word against the limits, and against the lines
+
+-- whether a word is beyond each of the limits
+pub record BeyondEach : Type 0 where
+  pub lowerWarning : Bool
+  pub upperWarning : Bool
+  pub lowerControl : Bool
+  pub upperControl : Bool
+
+-- by the exact limits
+unfoldable pub beyondEach : Limits → ℤ → BeyondEach
+beyondEach limits w =
+    record {
+      lowerWarning = beyondLower warningMultiple limits w;
+      upperWarning = beyondUpper warningMultiple limits w;
+      lowerControl = beyondLower controlMultiple limits w;
+      upperControl = beyondUpper controlMultiple limits w;
+    }
+
+-- "a word w against the double as 256w against k": w is above the line x; below it
+unfoldable pub aboveLine : Float → ℤ → Bool
+aboveLine x w = ltZ (partsIn x) (pos lineParts *ℤ w)
+
+unfoldable pub belowLine : Float → ℤ → Bool
+belowLine x w = ltZ (pos lineParts *ℤ w) (partsIn x)
+
+-- by the lines: "The mean line is no limit, and no word is judged by its double." Lines of kind 1 have no lower limit
+unfoldable pub beyondLines : Lines → ℤ → BeyondEach
+beyondLines (duplicate mean upperWarning upperControl) w =
+    record {
+      lowerWarning = false;
+      upperWarning = aboveLine upperWarning w;
+      lowerControl = false;
+      upperControl = aboveLine upperControl w;
+    }
+beyondLines (twoSided mean lowerWarning upperWarning lowerControl upperControl) w =
+    record {
+      lowerWarning = belowLine lowerWarning w;
+      upperWarning = aboveLine upperWarning w;
+      lowerControl = belowLine lowerControl w;
+      upperControl = aboveLine upperControl w;
+    }
+
+-- ---- what demand 3 says of drawn lines: the double x is k / 256 by its bits, k is the paper's, less than 1 away from 256 times the exact
+-- limit, and any word w lies beyond the double exactly if it lies beyond the exact limit
+
+pub record DrawsUpper (m : ℕ) (s : Sums) (x : Float) : Type 0 where
+  pub double : x ≡ doubleOf (partsIn x)
+  pub line : IsUpperLine m s (partsIn x)
+  pub close : partsAbove m s (partsIn x +ℤ pos 1) ≡ true
+  pub judges : (w : ℤ) → aboveLine x w ≡ above m s w
+
+pub record DrawsLower (m : ℕ) (s : Sums) (x : Float) : Type 0 where
+  pub double : x ≡ doubleOf (partsIn x)
+  pub line : IsLowerLine m s (partsIn x)
+  pub close : partsBelow m s (partsIn x -ℤ pos 1) ≡ true
+  pub judges : (w : ℤ) → belowLine x w ≡ below m s w
+
+pub record DrawsMean (s : Sums) (x : Float) : Type 0 where
+  pub double : x ≡ doubleOf (partsIn x)
+  pub line : IsMeanLine s (partsIn x)
+  pub close : partsAboveMean s (partsIn x +ℤ pos 1) ≡ true
+
+-- .. of all lines that a chart with these limits has: kind 1 has three, the others five
+pub record DrawsDuplicate (limits : Limits) (mean upperWarning upperControl : Float) : Type 0 where
+  pub kind : hasLower (limits .kind) ≡ false
+  pub of-mean : DrawsMean (limits .sums) mean
+  pub of-upper-warning : DrawsUpper warningMultiple (limits .sums) upperWarning
+  pub of-upper-control : DrawsUpper controlMultiple (limits .sums) upperControl
+
+pub record DrawsTwoSided (limits : Limits) (mean lowerWarning upperWarning lowerControl upperControl : Float) : Type 0 where
+  pub kind : hasLower (limits .kind) ≡ true
+  pub of-mean : DrawsMean (limits .sums) mean
+  pub of-lower-warning : DrawsLower warningMultiple (limits .sums) lowerWarning
+  pub of-upper-warning : DrawsUpper warningMultiple (limits .sums) upperWarning
+  pub of-lower-control : DrawsLower controlMultiple (limits .sums) lowerControl
+  pub of-upper-control : DrawsUpper controlMultiple (limits .sums) upperControl
+
+abbrev pub Draws : Limits → Lines → Type 0
+Draws limits (duplicate mean upperWarning upperControl) = DrawsDuplicate limits mean upperWarning upperControl
+Draws limits (twoSided mean lowerWarning upperWarning lowerControl upperControl) =
+    DrawsTwoSided limits mean lowerWarning upperWarning lowerControl upperControl

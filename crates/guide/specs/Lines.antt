@@ -1,0 +1,68 @@
+-- Document 01, "Lines for the plotter": lines by their whole numbers k of 256ths. A limit's line is worked out for any multiple m of S.
+-- `proofs/Lines` has that each is what the paper asks for, wherever there are two words or more.
+use mathlib.Core.Path.{_≡_}
+use mathlib.Core.Bool.{Bool, true, false, _&&_}
+use Prim.Native.Nat.{ℕ, _*_, _-_, _/_}
+use lib.IntN.{ℤ, pos, negsuc, natAbs, negℤ, _+ℤ_, _-ℤ_, _*ℤ_}
+use lib.Signed.{ltZ, leZ}
+use Rattle.guide.specs.Sizes.{lineParts}
+use Rattle.guide.specs.SquareRoot.{squareRoot}
+use Rattle.guide.specs.Limits.{Sums, vOf, exceeds}
+
+-- ---- k against 256 times the exact limit, "decided by squares of whole numbers, as in judging"
+
+-- n times the deviation of k from 256 times the mean T/n: n·k − 256·T
+unfoldable pub partsDeviation : Sums → ℤ → ℤ
+partsDeviation s k = pos (s .n) *ℤ k -ℤ pos lineParts *ℤ s .t
+
+-- k is above 256 times the mean
+unfoldable pub partsAboveMean : Sums → ℤ → Bool
+partsAboveMean s k = ltZ (pos 0) (partsDeviation s k)
+
+-- k is above 256 times the mean + m·S; below 256 times the mean − m·S. 256 times m·S is (256·m)·S
+unfoldable pub partsAbove : ℕ → Sums → ℤ → Bool
+partsAbove m s k = partsAboveMean s k && exceeds (lineParts * m) s (partsDeviation s k)
+
+unfoldable pub partsBelow : ℕ → Sums → ℤ → Bool
+partsBelow m s k = ltZ (partsDeviation s k) (pos 0) && exceeds (lineParts * m) s (partsDeviation s k)
+
+-- ---- what the paper asks of a line
+
+-- "An upper limit is the greatest multiple of 1/256 not above the exact limit"
+pub record IsUpperLine (m : ℕ) (s : Sums) (k : ℤ) : Type 0 where
+  pub not-above : partsAbove m s k ≡ false
+  pub greatest : (j : ℤ) → partsAbove m s j ≡ false → leZ j k ≡ true
+
+-- "a lower limit the least multiple not below it"
+pub record IsLowerLine (m : ℕ) (s : Sums) (k : ℤ) : Type 0 where
+  pub not-below : partsBelow m s k ≡ false
+  pub least : (j : ℤ) → partsBelow m s j ≡ false → leZ k j ≡ true
+
+-- "the mean line the greatest not above T/n"
+pub record IsMeanLine (s : Sums) (k : ℤ) : Type 0 where
+  pub not-above : partsAboveMean s k ≡ false
+  pub greatest : (j : ℤ) → partsAboveMean s j ≡ false → leZ j k ≡ true
+
+-- ---- how a line is worked out
+
+-- z / n rounded down, and rounded up. `negsuc a` is −(a + 1)
+unfoldable pub quotientDown : ℤ → ℕ → ℤ
+quotientDown (pos a) n = pos (a / n)
+quotientDown (negsuc a) n = negsuc (a / n)
+
+unfoldable pub quotientUp : ℤ → ℕ → ℤ
+quotientUp z n = negℤ (quotientDown (negℤ z) n)
+
+-- the greatest whole d for which d / n is not more than m·S: d²·(n − 1) ≤ m²·n·V
+unfoldable pub greatestDeviation : ℕ → Sums → ℕ
+greatestDeviation m s = squareRoot (m * m * (s .n * natAbs (vOf s)) / (s .n - 1))
+
+-- n·k is at most 256·T + d, and at least 256·T − d, for the greatest d within (256·m)·S
+unfoldable pub upperLine : ℕ → Sums → ℤ
+upperLine m s = quotientDown (pos lineParts *ℤ s .t +ℤ pos (greatestDeviation (lineParts * m) s)) (s .n)
+
+unfoldable pub lowerLine : ℕ → Sums → ℤ
+lowerLine m s = quotientUp (pos lineParts *ℤ s .t -ℤ pos (greatestDeviation (lineParts * m) s)) (s .n)
+
+unfoldable pub meanLine : Sums → ℤ
+meanLine s = quotientDown (pos lineParts *ℤ s .t) (s .n)

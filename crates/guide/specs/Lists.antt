@@ -1,0 +1,21 @@
+-- Document 01, "Lists": where the machine starts. A list of calls takes the state from here through `Machine.after` and `Machine.answers`.
+use Prim.Native.Nat.{ℕ}
+use Rattle.guide.specs.State.{State}
+use Rattle.guide.specs.Building as build
+use Rattle.guide.specs.Reading as read
+
+-- a start that building or reading accepted, or the number by which it was declined
+pub data Start : Type 0 where
+  begun : State → Start
+  declined : ℕ → Start
+
+-- "Its start after building: the chart kind given, the base that rejection leaves of the words given, an empty series, status 0, open
+-- verdict 0"
+unfoldable pub startOfBuilding : build.BuildingAnswer → Start
+startOfBuilding (build.built s rounds removed) = begun s
+startOfBuilding (build.refused n) = declined n
+
+-- "Its start after reading: the chart kind, base, series, status and open verdict that the records in the bytes hold"
+unfoldable pub startOfReading : read.ReadingAnswer → Start
+startOfReading (read.taken s) = begun s
+startOfReading (read.refused n) = declined n

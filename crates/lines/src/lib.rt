@@ -1,0 +1,183 @@
+// Lines for the plotter: document 01, "Lines for the plotter". The limits of a chart and its mean as doubles, each a whole number k of 256ths:
+// an upper limit rounded down, a lower limit rounded up, the mean rounded down. k is worked out in whole numbers (`parts`) and then divided by
+// 256, which a double does exactly.
+//
+// `lines_of` and `against_lines` decline a chart that is not sound, with 14.
+mod parts;
+
+use chart::Chart;
+use limits::CONTROL;
+use limits::Limits;
+use limits::Sums;
+use limits::WARNING;
+use limits::has_lower;
+use limits::limits_of;
+use parts::lower_parts;
+use parts::mean_parts;
+use parts::upper_parts;
+ghost use mathlib.Core.Path.{_≡_};
+ghost use Prim.Native.Nat.{_≤_, _^_};
+ghost use lib.IntN.{natAbs};
+ghost use lib.Ieee.{lt, ofInt, binary64};
+ghost use Rattle.guide.specs.Double.{doubleOf};
+ghost use Rattle.guide.specs.Lines as guide;
+ghost use Rattle.guide.specs.Drawing.{linesOf};
+ghost use Rattle.limits.specs.Sums.{sumsSay, limitsSay};
+ghost use Rattle.lines.specs.Lines.{Drawable, linesSay, drawingSays, againstSays, answerToLines, answerToAgainst, IsAgainst};
+
+pub struct TwoSidedLines {
+    pub mean: f64,
+    pub lower_warning: f64,
+    pub upper_warning: f64,
+    pub lower_control: f64,
+    pub upper_control: f64,
+}
+
+pub enum Lines {
+    // Kind 1. Its lower line, always 0.0, is not carried.
+    Duplicate {
+        mean: f64,
+        upper_warning: f64,
+        upper_control: f64,
+    },
+    TwoSided(TwoSidedLines),
+}
+
+pub enum LinesAnswer {
+    Drawn(Lines),
+    Refused(u16),
+}
+
+// Whether a word is beyond each of the limits. Kind 1 has no lower ones, so no word is beyond these.
+pub struct BeyondEach {
+    pub lower_warning: bool,
+    pub upper_warning: bool,
+    pub lower_control: bool,
+    pub upper_control: bool,
+}
+
+pub enum AgainstAnswer {
+    Done(BeyondEach),
+    Refused(u16),
+}
+
+// The lines of a chart.
+pub fn lines_of(chart: Chart) -> LinesAnswer
+    ensures { λ r. ⌜ drawingSays r ≡ answerToLines chart ⌝ }
+{
+    if !chart.sound() {
+        return LinesAnswer::Refused(14);
+    }
+    let base = chart.base;
+    let n = chart.base_len;
+    let l = limits_of(chart.kind, &base[..n]);
+    LinesAnswer::Drawn(lines_by(l))
+}
+
+// A word against the lines of a chart: the same answer as by the exact limits.
+pub fn against_lines(chart: Chart, word: i16) -> AgainstAnswer
+    ensures { λ r. ⌜ againstSays r ≡ answerToAgainst chart word ⌝ }
+{
+    let answer = lines_of(chart);
+    match answer {
+        LinesAnswer::Drawn(l) => AgainstAnswer::Done(beyond_lines(l, word)),
+        LinesAnswer::Refused(n) => AgainstAnswer::Refused(n),
+    }
+}
+
+// A word against lines, whatever their doubles are.
+pub fn beyond_lines(lines: Lines, word: i16) -> BeyondEach
+    ensures { λ r. ⌜ IsAgainst lines word r ⌝ }
+{
+    match lines {
+        Lines::Duplicate {
+            mean,
+            upper_warning,
+            upper_control,
+        } => BeyondEach {
+            lower_warning: false,
+            upper_warning: above_line(upper_warning, word),
+            lower_control: false,
+            upper_control: above_line(upper_control, word),
+        },
+        Lines::TwoSided(l) => BeyondEach {
+            lower_warning: below_line(l.lower_warning, word),
+            upper_warning: above_line(l.upper_warning, word),
+            lower_control: below_line(l.lower_control, word),
+            upper_control: above_line(l.upper_control, word),
+        },
+    }
+}
+
+// A word on a line is not beyond it.
+fn above_line(line: f64, word: i16) -> bool
+    ensures { λ r. ⌜ r ≡ lt line (ofInt binary64 word) ⌝ }
+{
+    line < (word as f64)
+}
+
+fn below_line(line: f64, word: i16) -> bool
+    ensures { λ r. ⌜ r ≡ lt (ofInt binary64 word) line ⌝ }
+{
+    (word as f64) < line
+}
+
+// ---- the lines that limits give
+
+fn lines_by(l: Limits) -> Lines
+    requires { ⌜ Drawable (l .sums) ⌝ }
+    ensures { λ r. ⌜ linesSay r ≡ linesOf (limitsSay l) ⌝ }
+{
+    let s = l.sums;
+    let mean = mean_line(s);
+    let upper_warning = upper_line(WARNING, s);
+    let upper_control = upper_line(CONTROL, s);
+    if has_lower(l.kind) {
+        let lower_warning = lower_line(WARNING, s);
+        let lower_control = lower_line(CONTROL, s);
+        return Lines::TwoSided(TwoSidedLines {
+            mean,
+            lower_warning,
+            upper_warning,
+            lower_control,
+            upper_control,
+        });
+    }
+    Lines::Duplicate {
+        mean,
+        upper_warning,
+        upper_control,
+    }
+}
+
+fn mean_line(s: Sums) -> f64
+    requires { ⌜ Drawable s ⌝ }
+    ensures { λ r. ⌜ r ≡ doubleOf (guide.meanLine (sumsSay s)) ⌝ }
+{
+    line_of(mean_parts(s))
+}
+
+// The line of the mean + m·S.
+fn upper_line(m: u8, s: Sums) -> f64
+    requires { ⌜ (m ≤ 3) × Drawable s ⌝ }
+    ensures { λ r. ⌜ r ≡ doubleOf (guide.upperLine m (sumsSay s)) ⌝ }
+{
+    line_of(upper_parts(m, s))
+}
+
+// The line of the mean − m·S.
+fn lower_line(m: u8, s: Sums) -> f64
+    requires { ⌜ (m ≤ 3) × Drawable s ⌝ }
+    ensures { λ r. ⌜ r ≡ doubleOf (guide.lowerLine m (sumsSay s)) ⌝ }
+{
+    line_of(lower_parts(m, s))
+}
+
+// k / 256: both are whole numbers that a double holds, and the quotient is one too.
+fn line_of(k: i64) -> f64
+    requires { ⌜ natAbs k ≤ 2 ^ 34 ⌝ }
+    ensures { λ r. ⌜ r ≡ doubleOf k ⌝ }
+{
+    let parts = Chart::LINE_PARTS as f64;
+    (k as f64) / parts
+}

@@ -1,0 +1,29 @@
+-- Demand 3, document 01, "Lists": one claim about a whole list of calls.
+use mathlib.Core.Path.{_≡_}
+use mathlib.Core.Bool.{true}
+use mathlib.Core.List.{List}
+use Prim.Native.Nat.{_≤_}
+use lib.ListN.{length}
+use Rattle.guide.specs.Sizes.{baseLeast}
+use Rattle.guide.specs.State.{State, limitsFor}
+use Rattle.guide.specs.Machine.{Call, Answer, after, answers}
+use Rattle.guide.specs.Drawing.{DrawingAnswer, drawn, linesOf, Draws}
+use Rattle.chart.specs.declared.Chart.{Chart}
+use Rattle.chart.specs.Chart.{stateOf, chartOf}
+use Rattle.chart.specs.Soundness.{soundChart}
+
+-- From the machine's start s, after the calls: the program has the chart `chart`, its calls answered `said`, and lines asked of that chart
+-- `drawing`. "The machine is fed its start and what the calls bring, never the program's chart or answers."
+pub record Claim (s : State) (calls : List Call) (chart : Chart) (said : List Answer) (drawing : DrawingAnswer) : Type 0 where
+  -- chart kind, base, series, status and open verdict are the machine's, and unused places hold 0
+  pub same-chart : chart ≡ chartOf (after s calls)
+  -- every answer is the machine's
+  pub same-answers : said ≡ answers s calls
+  -- the chart is sound
+  pub sound : soundChart chart ≡ true
+  -- at least ten base words stand
+  pub ten : baseLeast ≤ length (stateOf chart .base)
+  -- lines are answered ..
+  pub answered : drawing ≡ drawn (linesOf (limitsFor (after s calls)))
+  -- .. each limit's double is the paper's, within 1/256 of the exact limit, and judges every word as the exact limit does
+  pub draws : Draws (limitsFor (after s calls)) (linesOf (limitsFor (after s calls)))

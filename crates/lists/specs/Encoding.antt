@@ -1,0 +1,82 @@
+-- A list of calls as numbers, five to a call, and answers as numbers, three to an answer.
+use mathlib.Core.Bool.{Bool, true, false, _&&_}
+use mathlib.Core.List.{List, [], _∷_, _++_}
+use Prim.Native.Nat.{ℕ, _*_}
+use lib.ListN.{length, drop}
+use lib.Dec.{leb, eqb}
+use lib.IntN.{ℤ, pos, negsuc}
+use lib.Signed.{leZ}
+use Rattle.guide.specs.Choice.{choose}
+use Rattle.guide.specs.Machine.{Call, post, reanalysis, correction, renewal, Answer, judged, reanalysed, corrected, renewed, refused}
+
+abbrev pub callSize : ℕ
+callSize = 5
+
+abbrev pub answerSize : ℕ
+answerSize = 3
+
+-- ---- calls
+
+-- 1 post, 2 reanalysis, 3 correction, 4 renewal
+unfoldable pub isCallNumber : ℤ → Bool
+isCallNumber z = leZ (pos 1) z && leZ z (pos 4)
+
+-- a kind of sixteen bits is itself; any other number, like 0, is no chart's kind
+unfoldable pub kindOf : ℤ → ℕ
+kindOf (pos n) = choose (leb n 65535) n 0
+kindOf (negsuc n) = 0
+
+unfoldable pub isNumber : ℕ → ℤ → Bool
+isNumber n (pos k) = eqb k n
+isNumber n (negsuc k) = false
+
+-- the call of this number; what a correction or a renewal has beside is not looked at
+unfoldable pub callOf : (number : ℤ) (kind : ℕ) (a b c : ℤ) → Call
+callOf number kind a b c =
+    choose (isNumber 1 number) (post kind a b c)
+    (choose (isNumber 2 number) (reanalysis kind a b c)
+    (choose (isNumber 3 number) correction
+    renewal))
+
+-- the numbers are calls: five to each, with the number of a call first
+unfoldable pub areCalls : List ℤ → Bool
+areCalls [] = true
+areCalls (number ∷ kind ∷ a ∷ b ∷ c ∷ rest) = isCallNumber number && areCalls rest
+areCalls (number ∷ []) = false
+areCalls (number ∷ kind ∷ []) = false
+areCalls (number ∷ kind ∷ a ∷ []) = false
+areCalls (number ∷ kind ∷ a ∷ b ∷ []) = false
+
+-- these calls
+unfoldable pub callsIn : List ℤ → List Call
+callsIn [] = []
+callsIn (number ∷ kind ∷ a ∷ b ∷ c ∷ rest) = callOf number (kindOf kind) a b c ∷ callsIn rest
+callsIn (number ∷ []) = []
+callsIn (number ∷ kind ∷ []) = []
+callsIn (number ∷ kind ∷ a ∷ []) = []
+callsIn (number ∷ kind ∷ a ∷ b ∷ []) = []
+
+-- ---- answers
+
+unfoldable pub passedNumber : Bool → ℤ
+passedNumber true = pos 1
+passedNumber false = pos 0
+
+unfoldable pub numbersOf : Answer → List ℤ
+numbersOf (judged w v) = pos 1 ∷ w ∷ pos v ∷ []
+numbersOf (reanalysed w passed) = pos 2 ∷ w ∷ passedNumber passed ∷ []
+numbersOf corrected = pos 3 ∷ pos 0 ∷ pos 0 ∷ []
+numbersOf (renewed rounds removed) = pos 4 ∷ pos rounds ∷ pos removed ∷ []
+numbersOf (refused n) = pos 0 ∷ pos n ∷ pos 0 ∷ []
+
+unfoldable pub allNumbersOf : List Answer → List ℤ
+allNumbersOf [] = []
+allNumbersOf (answer ∷ answers) = numbersOf answer ++ allNumbersOf answers
+
+-- the buffer has room for the answers of all calls
+unfoldable pub hasRoom : List ℤ → List ℤ → Bool
+hasRoom calls room = leb (answerSize * length (callsIn calls)) (length room)
+
+-- the answers at the front of the buffer, and all after them as it was
+unfoldable pub answered : List Answer → List ℤ → List ℤ
+answered said room = allNumbersOf said ++ drop (length (allNumbersOf said)) room

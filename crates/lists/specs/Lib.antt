@@ -1,0 +1,3 @@
+pub mod Encoding
+pub mod Claim
+pub mod Runs

@@ -1,0 +1,99 @@
+// The calls of a list: whether numbers are one, and the call that stands at a place of it.
+use answers::Said;
+use answers::put_answer;
+use answers::said_by_correction;
+use answers::said_by_post;
+use answers::said_by_reanalysis;
+use answers::said_by_renewal;
+use chart::Chart;
+ghost use mathlib.Core.Path.{_≡_};
+ghost use Prim.Native.Nat.{_+_, _≤_};
+ghost use lib.ListN.{length};
+ghost use Rattle.lists.specs.Encoding.{isCallNumber, areCalls, kindOf, callOf, callSize, answerSize};
+ghost use Rattle.lists.specs.Runs.{Calls, Turns};
+
+// The numbers of a call.
+pub const CALL_SIZE: usize = 5;
+
+// What a call gave: the chart that it gave back, and its answer.
+pub struct Called {
+    pub chart: Chart,
+    pub said: Said,
+}
+
+// Five numbers to each call, the first of which is the call's number.
+pub fn are_calls(numbers: &[i64]) -> bool
+    ensures { λ r. ⌜ r ≡ areCalls (now (numbers .entry)) ⌝ }
+{
+    let mut at: usize = 0;
+    while CALL_SIZE <= numbers.len() - at {
+        if !is_call_number(numbers[at]) {
+            return false;
+        }
+        at += CALL_SIZE;
+    }
+    at == numbers.len()
+}
+
+fn is_call_number(number: i64) -> bool
+    ensures { λ r. ⌜ r ≡ isCallNumber number ⌝ }
+{
+    (1 <= number) & (number <= 4)
+}
+
+// The call that stands at a place of the list is made, and its answer is put into the buffer.
+pub fn turn(chart: Chart, calls: &[i64], at: usize, answers: &mut [i64], place: usize) -> Chart
+    requires { ⌜ (at + callSize ≤ length (now calls)) × (place + answerSize ≤ length (now answers)) ⌝ }
+    ensures { λ r. ⌜ Turns chart (now (calls .entry)) at (now (answers .entry)) place (now (answers .exit)) r ⌝ }
+{
+    let number = calls[at];
+    let kind = kind_of(calls[at + 1]);
+    let a = calls[at + 2];
+    let b = calls[at + 3];
+    let c = calls[at + 4];
+    let r = call(chart, number, kind, a, b, c);
+    let after = r.chart;
+    put_answer(answers, place, r.said);
+    after
+}
+
+// A kind, or 0, which is no chart's kind, for a number that is none of 16 bits.
+fn kind_of(number: i64) -> u16
+    ensures { λ r. ⌜ r ≡ kindOf number ⌝ }
+{
+    if number < 0 {
+        return 0;
+    }
+    if 65535 < number {
+        return 0;
+    }
+    number as u16
+}
+
+// One call on a chart.
+fn call(chart: Chart, number: i64, kind: u16, a: i64, b: i64, c: i64) -> Called
+    ensures { λ r. ⌜ Calls chart (callOf number kind a b c) r ⌝ }
+{
+    if number == 1 {
+        let r = chart.post(kind, a, b, c);
+        let after = r.chart;
+        let said = said_by_post(r.answer);
+        return Called { chart: after, said };
+    }
+    if number == 2 {
+        let r = chart.reanalyse(kind, a, b, c);
+        let after = r.chart;
+        let said = said_by_reanalysis(r.answer);
+        return Called { chart: after, said };
+    }
+    if number == 3 {
+        let r = chart.correct();
+        let after = r.chart;
+        let said = said_by_correction(r.answer);
+        return Called { chart: after, said };
+    }
+    let r = chart.renew();
+    let after = r.chart;
+    let said = said_by_renewal(r.answer);
+    Called { chart: after, said }
+}

@@ -1,0 +1,145 @@
+// Whole lists of calls: document 01, "Lists". A chart is built from words or read from bytes, each call takes the chart that the call before
+// it gave back, and lines are asked of the chart after the last.
+//
+// A list is numbers, five to a call: 1 post, 2 reanalysis, 3 correction or 4 renewal; then a kind and three numbers, which a correction
+// and a renewal do not look at. An answer is three numbers: the call's number and word and verdict (1), word and 1 for passed or 0 for failed
+// (2), 0 and 0 (3), rounds and number removed (4); or 0, the number of the refusal and 0.
+//
+// In this order, numbers that are no list, a buffer without room for all answers, and a start that building or reading declines are
+// declined. Then nothing is run: the buffer is as it was, and the chart of zeros comes, of which there are no lines.
+mod answers;
+mod calls;
+
+use answers::ANSWER_SIZE;
+use calls::CALL_SIZE;
+use calls::are_calls;
+use calls::turn;
+use chart::BuildAnswer;
+use chart::Chart;
+use chart::zero_chart;
+use lines::LinesAnswer;
+use lines::lines_of;
+use store::ReadAnswer;
+use store::read;
+ghost use mathlib.Core.Path.{_≡_};
+ghost use mathlib.Core.Bool.{true};
+ghost use Rattle.guide.specs.Building.{building};
+ghost use Rattle.guide.specs.Reading.{reading};
+ghost use Rattle.guide.specs.Lists.{startOfBuilding, startOfReading};
+ghost use Rattle.lists.specs.Encoding.{areCalls, hasRoom};
+ghost use Rattle.lists.specs.Runs.{outcomeOf, machineStart, Gives, IsStart, RunsFrom, RunsCalls, NothingRun};
+
+pub enum RunAnswer {
+    // The list was run, and its answers stand in the buffer.
+    Done,
+    // Building or reading declined, by this number.
+    StartRefused(u16),
+    // The numbers are no list of calls.
+    NotCalls,
+    // The buffer has no room for the answers.
+    NoRoom,
+}
+
+pub struct Run {
+    pub chart: Chart,
+    pub answer: RunAnswer,
+    // The lines of that chart.
+    pub lines: LinesAnswer,
+}
+
+// What building or reading gave: a chart, and the number of a refusal or 0.
+struct Start {
+    chart: Chart,
+    refusal: u16,
+}
+
+// Builds a chart from words, and runs a list of calls from it.
+pub fn run_from_words(kind: u16, words: &[i16], calls: &[i64], answers: &mut [i64]) -> Run
+    ensures { λ r. ⌜ Gives (outcomeOf (machineStart (startOfBuilding (building kind (now (words .entry))))) (now (calls .entry)) (now (answers .entry))) (now (calls .entry)) (now (answers .entry)) (now (answers .exit)) r ⌝ }
+{
+    let start = start_of_words(kind, words);
+    run_from(start, calls, answers)
+}
+
+// Reads a chart from bytes, and runs a list of calls from it.
+pub fn run_from_bytes(bytes: &[u8], calls: &[i64], answers: &mut [i64]) -> Run
+    ensures { λ r. ⌜ Gives (outcomeOf (machineStart (startOfReading (reading (now (bytes .entry))))) (now (calls .entry)) (now (answers .entry))) (now (calls .entry)) (now (answers .entry)) (now (answers .exit)) r ⌝ }
+{
+    let start = start_of_bytes(bytes);
+    run_from(start, calls, answers)
+}
+
+fn start_of_words(kind: u16, words: &[i16]) -> Start
+    ensures { λ r. ⌜ IsStart (startOfBuilding (building kind (now (words .entry)))) r ⌝ }
+{
+    let b = Chart::build(kind, words);
+    let chart = b.chart;
+    let answer = b.answer;
+    match answer {
+        BuildAnswer::Done { rounds, removed } => Start { chart, refusal: 0 },
+        BuildAnswer::Refused(n) => Start { chart, refusal: n },
+    }
+}
+
+fn start_of_bytes(bytes: &[u8]) -> Start
+    ensures { λ r. ⌜ IsStart (startOfReading (reading (now (bytes .entry)))) r ⌝ }
+{
+    let b = read(bytes);
+    let chart = b.chart;
+    let answer = b.answer;
+    match answer {
+        ReadAnswer::Done => Start { chart, refusal: 0 },
+        ReadAnswer::Refused(n) => Start { chart, refusal: n },
+    }
+}
+
+// Runs the list, unless something is declined.
+fn run_from(start: Start, calls: &[i64], answers: &mut [i64]) -> Run
+    ensures { λ r. ⌜ RunsFrom start (now (calls .entry)) (now (answers .entry)) (now (answers .exit)) r ⌝ }
+{
+    let chart = start.chart;
+    let refusal = start.refusal;
+    if !are_calls(calls) {
+        return not_run(RunAnswer::NotCalls);
+    }
+    if answers.len() / ANSWER_SIZE < calls.len() / CALL_SIZE {
+        return not_run(RunAnswer::NoRoom);
+    }
+    if refusal != 0 {
+        return not_run(RunAnswer::StartRefused(refusal));
+    }
+    let after = run_calls(chart, calls, answers);
+    Run {
+        chart: after,
+        answer: RunAnswer::Done,
+        lines: lines_of(after),
+    }
+}
+
+// What comes where nothing is run.
+fn not_run(answer: RunAnswer) -> Run
+    ensures { λ r. ⌜ NothingRun answer r ⌝ }
+{
+    let chart = zero_chart();
+    Run {
+        chart,
+        answer,
+        lines: lines_of(chart),
+    }
+}
+
+// Makes the calls one after the other, each on the chart that the one before gave back.
+fn run_calls(start: Chart, calls: &[i64], answers: &mut [i64]) -> Chart
+    requires { ⌜ (areCalls (now calls) ≡ true) × (hasRoom (now calls) (now answers) ≡ true) ⌝ }
+    ensures { λ r. ⌜ RunsCalls start (now (calls .entry)) (now (answers .entry)) (now (answers .exit)) r ⌝ }
+{
+    let mut chart = start;
+    let mut at: usize = 0;
+    let mut place: usize = 0;
+    while at < calls.len() {
+        chart = turn(chart, calls, at, answers, place);
+        at += CALL_SIZE;
+        place += ANSWER_SIZE;
+    }
+    chart
+}
