@@ -1,6 +1,7 @@
 -- The starred figures: what the definitions give is what the course says, in every row.
 use mathlib.Core.Path.{_≡_, refl}
 use mathlib.Core.List.{map}
+use lib.Ieee.{climb, size, odd}
 use Rattle.guide.specs.AllOf.{allOf}
 use Rattle.guide.specs.Kind.{isKind, ignoresThird, wordLeast, inRange, hasLower, judgesSide}
 use Rattle.guide.specs.Word.{isReading, areReadings, numerator, divisor, nearestNatural, nearest, roundedQuotient, fromReading}
@@ -16,6 +17,10 @@ use Rattle.guide.specs.Verdict.{eachNext, isRun, rising, falling, runAbo
 use Rattle.guide.specs.Verdict.{sideTest, firstVerdict, verdict, statusFor}
 use Rattle.guide.specs.Reanalysis.{turnsBack, passesTrend, passesVerdict, passes}
 use Rattle.guide.specs.Machine.{postRefusal, reanalysisRefusal, wordFor, posting, afterReanalysis, reanalysing, step, answers}
+use Rattle.guide.specs.SquareRoot.{rootWithin, squareRoot}
+use Rattle.guide.specs.Double.{doubleOf, partsIn}
+use Rattle.guide.specs.Lines.{quotientDown, quotientUp, greatestDeviation, upperLine, lowerLine, meanLine}
+use Rattle.guide.specs.Drawing.{linesOf}
 use Rattle.guide.specs.Figures.{Row, table}
 
 pub figures-hold : map (λ (r : Row). r .defined) table ≡ map (λ (r : Row). r .figure) table
@@ -26,4 +31,5 @@ unfolding table isKind ignoresThird wordLeast inRange hasLower judgesSide isRead
     buildRefusal building allOf eachNext isRun rising falling runAbove runBelow controlTest warningTest trendTest sideTest
     firstVerdict verdict statusFor
     turnsBack passesTrend passesVerdict passes postRefusal reanalysisRefusal wordFor posting afterReanalysis reanalysing step answers
+    size climb odd rootWithin squareRoot doubleOf partsIn quotientDown quotientUp greatestDeviation upperLine lowerLine meanLine linesOf
 figures-hold = refl

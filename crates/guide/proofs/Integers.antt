@@ -78,7 +78,7 @@ sub-magnitude a b = sub-cases a b (λ z. natAbs z ≡ distance a b) (λ k p. ome
 
 -- ---- the sign of a difference
 
-same-test : (a b c d : ℕ) → (a < b → c < d) → (b ≤ a → d ≤ c) → ltb a b ≡ ltb c d
+pub same-test : (a b c d : ℕ) → (a < b → c < d) → (b ≤ a → d ≤ c) → ltb a b ≡ ltb c d
 same-test a b c d f g =
     by-order a b
     (λ h. le-ltb a b h ∙ sym (le-ltb c d (g h)))
@@ -156,6 +156,42 @@ is-pos {a = a} {b = b} k p e = p .is ∙ sub-pos a b k e
 -- z is below 0 exactly if c < d, where a < b and c < d are shown to go together
 pub is-below : {z : ℤ} {a b : ℕ} → Diff z a b → (c d : ℕ) → (a < b → c < d) → (b ≤ a → d ≤ c) → ltZ z (pos 0) ≡ ltb c d
 is-below {a = a} {b = b} p c d f g = ap (λ (x : ℤ). ltZ x (pos 0)) (p .is) ∙ sub-below a b ∙ same-test a b c d f g
+
+-- two differences that are one integer
+pub equal : {z y : ℤ} {a b c d : ℕ} → Diff z a b → Diff y c d → a + d ≡ c + b → z ≡ y
+equal {a = a} {b = b} {c = c} {d = d} p q e = p .is ∙ sub-same a b c d e ∙ sym (q .is)
+
+-- the order of two integers
+sub-order : (a b c d : ℕ) → ltZ (subℕ a b) (subℕ c d) ≡ ltb (a + d) (c + b)
+sub-order a b c d =
+    sub-cases a b (λ z. ltZ z (subℕ c d) ≡ ltb (a + d) (c + b))
+    (λ i p. sub-cases c d (λ z. ltZ (pos i) z ≡ ltb (a + d) (c + b))
+    (λ j q. same-test i j (a + d) (c + b) (λ h. omega arith) (λ h. omega arith))
+    (λ j q. sym (le-ltb (a + d) (c + b) (omega arith))))
+    (λ i p. sub-cases c d (λ z. ltZ (negsuc i) z ≡ ltb (a + d) (c + b))
+    (λ j q. sym (lt-ltb (a + d) (c + b) (omega arith)))
+    (λ j q. same-test j i (a + d) (c + b) (λ h. omega arith) (λ h. omega arith)))
+
+-- z < y exactly if e < f, where a + d < c + b and e < f are shown to go together
+pub is-less : {z y : ℤ} {a b c d : ℕ} → Diff z a b → Diff y c d → (e f : ℕ) → (a + d < c + b → e < f) → (c + b ≤ a + d → f ≤ e)
+    → ltZ z y ≡ ltb e f
+is-less {y = y} {a = a} {b = b} {c = c} {d = d} p q e f less not-less =
+    ap (λ (x : ℤ). ltZ x y) (p .is)
+    ∙ ap (λ (x : ℤ). ltZ (subℕ a b) x) (q .is)
+    ∙ sub-order a b c d
+    ∙ same-test (a + d) (c + b) e f less not-less
+
+pub less-yes : {z y : ℤ} {a b c d : ℕ} → Diff z a b → Diff y c d → a + d < c + b → ltZ z y ≡ true
+less-yes p q h = is-less p q 0 1 (λ _. omega arith) (λ k. absurd (omega arith))
+
+pub less-no : {z y : ℤ} {a b c d : ℕ} → Diff z a b → Diff y c d → c + b ≤ a + d → ltZ z y ≡ false
+less-no p q h = is-less p q 0 0 (λ k. absurd (omega arith)) (λ _. omega arith)
+
+-- two orders that go together
+pub same-order : {z y x w : ℤ} {a b c d e f g h : ℕ} → Diff z a b → Diff y c d → Diff x e f → Diff w g h
+    → (a + d < c + b → e + h < g + f) → (c + b ≤ a + d → g + f ≤ e + h) → ltZ z y ≡ ltZ x w
+same-order {a = a} {b = b} {c = c} {d = d} {e = e} {f = f} {g = g} {h = h} p q r s less not-less =
+    is-less p q (e + h) (g + f) less not-less ∙ sym (is-less r s (e + h) (g + f) (λ k. k) (λ k. k))
 
 -- the parts of one integer
 sub-parts : (a b : ℕ) → plusPart (subℕ a b) + b ≡ a + minusPart (subℕ a b)

@@ -17,4 +17,7 @@ pub mod Soundness
 pub mod Machine
 pub mod Bytes
 pub mod Reading
+pub mod SquareRoot
+pub mod Double
+pub mod Lines
 pub mod Figures

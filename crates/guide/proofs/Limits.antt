@@ -29,7 +29,7 @@ unfolding sumOf sumBy
 sum-is [] = of-pos
 sum-is (w ∷ ws) = plus (of-any w) (sum-is ws)
 
-squares-are : (ws : List ℤ) → sumOfSquares ws ≡ pos (sumBy squareOf ws)
+pub squares-are : (ws : List ℤ) → sumOfSquares ws ≡ pos (sumBy squareOf ws)
 unfolding sumOfSquares sumOf sumBy
 squares-are [] = refl
 squares-are (w ∷ ws) = rw (square-magnitude w, squares-are ws)

@@ -1,6 +1,6 @@
 -- Document 01, "Lines for the plotter": "Lines are binary64", and "the whole number k of 256ths that the double's bits denote (k = 0 is
--- +0.0)". A value of `Float` that fits binary64 and the bits of a double are one for one. `HasValue x negative a c`, of `lib.Ieee.Exact`: x is finite, negative
--- by its sign or not, and of the size a / c.
+-- +0.0)". But for NaN, a value of `Float` that fits binary64 and the bits of a double are one for one. `HasValue x negative a c`, of
+-- `lib.Ieee.Exact`: x is finite, negative by its sign or not, and of the size a / c.
 use mathlib.Core.Bool.{Bool, true, false}
 use Prim.Native.Nat.{ℕ, suc, _*_, _/_}
 use lib.IntN.{ℤ, pos, negsuc, negℤ}
@@ -24,7 +24,7 @@ unfoldable pub doubleOf : ℤ → Float
 doubleOf (pos n) = odd 53 false n 1066 1074
 doubleOf (negsuc n) = odd 53 true (suc n) 1066 1074
 
--- k, where x denotes k / 256: 256 · x, without what is left of a whole number. A finite x is m · 2 ^ e, and 2 ^ e is `up e / down e`.
+-- k, where x denotes k / 256: 256 · x, rounded toward 0. A finite x is m · 2 ^ e in size, and 2 ^ e is `up e / down e`
 unfoldable pub partsIn : Float → ℤ
 partsIn nan = pos 0
 partsIn (inf negative) = pos 0

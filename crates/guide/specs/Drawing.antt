@@ -9,7 +9,7 @@ use Rattle.guide.specs.Choice.{choose}
 use Rattle.guide.specs.Sizes.{lineParts}
 use Rattle.guide.specs.Kind.{hasLower}
 use Rattle.guide.specs.Limits.{Sums, Limits, above, below, controlMultiple, warningMultiple, beyondUpper, beyondLower}
-use Rattle.guide.specs.Double.{doubleOf, partsIn}
+use Rattle.guide.specs.Double.{Denotes, doubleOf, partsIn}
 use Rattle.guide.specs.Lines.{partsAbove, partsBelow, partsAboveMean, IsUpperLine, IsLowerLine, IsMeanLine}
 use Rattle.guide.specs.Lines.{upperLine, lowerLine, meanLine}
 
@@ -79,27 +79,33 @@ beyondLines (twoSided mean lowerWarning upperWarning lowerControl upperControl) 
       upperControl = aboveLine upperControl w;
     }
 
--- ---- what demand 3 says of drawn lines: the double x is k / 256 by its bits, k is the paper's, less than 1 away from 256 times the exact
--- limit, and any word w lies beyond the double exactly if it lies beyond the exact limit
+-- ---- what demand 3 says of drawn lines
+
+-- the double x of a limit denotes k / 256, by its bits; k is the paper's, and less than 1 away from 256 times the exact limit; and any
+-- word w lies beyond the double exactly if it lies beyond the exact limit
 
 pub record DrawsUpper (m : ℕ) (s : Sums) (x : Float) : Type 0 where
+  pub denotes : Denotes x (partsIn x)
   pub double : x ≡ doubleOf (partsIn x)
   pub line : IsUpperLine m s (partsIn x)
   pub close : partsAbove m s (partsIn x +ℤ pos 1) ≡ true
   pub judges : (w : ℤ) → aboveLine x w ≡ above m s w
 
 pub record DrawsLower (m : ℕ) (s : Sums) (x : Float) : Type 0 where
+  pub denotes : Denotes x (partsIn x)
   pub double : x ≡ doubleOf (partsIn x)
   pub line : IsLowerLine m s (partsIn x)
   pub close : partsBelow m s (partsIn x -ℤ pos 1) ≡ true
   pub judges : (w : ℤ) → belowLine x w ≡ below m s w
 
+-- the double of the mean line, by which no word is judged
 pub record DrawsMean (s : Sums) (x : Float) : Type 0 where
+  pub denotes : Denotes x (partsIn x)
   pub double : x ≡ doubleOf (partsIn x)
   pub line : IsMeanLine s (partsIn x)
   pub close : partsAboveMean s (partsIn x +ℤ pos 1) ≡ true
 
--- .. of all lines that a chart with these limits has: kind 1 has three, the others five
+-- all lines that a chart with these limits has: kind 1 has three, the others five
 pub record DrawsDuplicate (limits : Limits) (mean upperWarning upperControl : Float) : Type 0 where
   pub kind : hasLower (limits .kind) ≡ false
   pub of-mean : DrawsMean (limits .sums) mean
@@ -118,3 +124,8 @@ abbrev pub Draws : Limits → Lines → Type 0
 Draws limits (duplicate mean upperWarning upperControl) = DrawsDuplicate limits mean upperWarning upperControl
 Draws limits (twoSided mean lowerWarning upperWarning lowerControl upperControl) =
     DrawsTwoSided limits mean lowerWarning upperWarning lowerControl upperControl
+
+-- the answer is lines, and these are so
+abbrev pub DrawsAnswer : Limits → DrawingAnswer → Type 0
+DrawsAnswer limits (drawn lines) = Draws limits lines
+DrawsAnswer limits (refused n) = ⊥

@@ -1,6 +1,5 @@
--- Document 01, "Figures from the course": the starred figures about words, limits, rejection, posts and reanalysis; those of lines are
--- yet to come into this table. A row is what the definitions give, and what the course says, as numbers. `proofs/Figures` covers the
--- table by one theorem; the figures without a star are run by the program `course`.
+-- Document 01, "Figures from the course": the starred figures. A row is what the definitions give, and what the course says, as
+-- numbers. `proofs/Figures` covers the table by one theorem; the figures without a star are run by the program `course`.
 use mathlib.Core.Bool.{Bool, true, false}
 use mathlib.Core.List.{List, [], _∷_, _++_, map}
 use Prim.Native.Nat.{ℕ, _+_, _*_, _-_}
@@ -12,6 +11,8 @@ use Rattle.guide.specs.Limits.{beyondControl, beyondWarning}
 use Rattle.guide.specs.Building as build
 use Rattle.guide.specs.Verdict.{sideTest}
 use Rattle.guide.specs.Machine as machine
+use Rattle.guide.specs.Double.{partsIn}
+use Rattle.guide.specs.Drawing.{Lines, duplicate, twoSided, linesOf}
 
 pub record Row : Type 0 where
   pub defined : List ℤ
@@ -50,6 +51,12 @@ abbrev pub verdictsOf : build.BuildingAnswer → List machine.Call → List ℤ
 verdictsOf (build.built s rounds removed) calls = map verdictNumber (machine.answers s calls)
 verdictsOf (build.refused n) calls = []
 
+-- lines times 256, from the lowest to the highest
+abbrev pub linesNumbers : Lines → List ℤ
+linesNumbers (duplicate mean upperWarning upperControl) = partsIn mean ∷ partsIn upperWarning ∷ partsIn upperControl ∷ []
+linesNumbers (twoSided mean lowerWarning upperWarning lowerControl upperControl) =
+    partsIn lowerControl ∷ partsIn lowerWarning ∷ partsIn mean ∷ partsIn upperWarning ∷ partsIn upperControl ∷ []
+
 -- ---- bases
 
 -- "Base A (kind 2): 9900 seven times, 10100 seven times, 10000."
@@ -58,6 +65,10 @@ baseA = replicate 7 (pos 9900) ++ (replicate 7 (pos 10100) ++ (pos 10000 ∷ [])
 
 abbrev pub limitsA : Limits
 limitsA = limitsOf 2 baseA
+
+-- "Base C: 10000 seven times, 10001 eight times." Its five lines are those of a kind with lower limits, as kind 2
+abbrev pub limitsC : Limits
+limitsC = limitsOf 2 (replicate 7 (pos 10000) ++ replicate 8 (pos 10001))
 
 -- "Kind 1, 1000 fourteen times and 2000"
 abbrev pub fourteenAndOne : List ℤ
@@ -127,4 +138,9 @@ table =
     -- "A, posts 10010, 10020, .., 10070: the seventh is 3, though 4 applies too."
     ∷ record { defined = verdictsOnA (map checkPost (sevenInTens 10010)); figure = replicate 6 (pos 0) ++ (pos 3 ∷ []) }
     ∷ record { defined = truth (sideTest limitsA (map pos (sevenInTens 10010))) ∷ []; figure = pos 1 ∷ [] }
+    -- "C: lines times 256 are 2559740, 2559873, 2560136, 2560400, 2560533."
+    ∷ record {
+      defined = linesNumbers (linesOf limitsC);
+      figure = pos 2559740 ∷ pos 2559873 ∷ pos 2560136 ∷ pos 2560400 ∷ pos 2560533 ∷ [];
+    }
     ∷ []

@@ -1,5 +1,5 @@
 -- Document 01, "Lines for the plotter": lines by their whole numbers k of 256ths. A limit's line is worked out for any multiple m of S.
--- `proofs/Lines` has that each is what the paper asks for, wherever there are two words or more.
+-- `proofs/Lines` has that each is what the paper asks for, by the sums of two words or more.
 use mathlib.Core.Path.{_≡_}
 use mathlib.Core.Bool.{Bool, true, false, _&&_}
 use Prim.Native.Nat.{ℕ, _*_, _-_, _/_}
@@ -19,7 +19,7 @@ partsDeviation s k = pos (s .n) *ℤ k -ℤ pos lineParts *ℤ s .t
 unfoldable pub partsAboveMean : Sums → ℤ → Bool
 partsAboveMean s k = ltZ (pos 0) (partsDeviation s k)
 
--- k is above 256 times the mean + m·S; below 256 times the mean − m·S. 256 times m·S is (256·m)·S
+-- k is above 256·(the mean + m·S); below 256·(the mean − m·S). 256 times m·S is (256·m)·S
 unfoldable pub partsAbove : ℕ → Sums → ℤ → Bool
 partsAbove m s k = partsAboveMean s k && exceeds (lineParts * m) s (partsDeviation s k)
 
@@ -28,20 +28,26 @@ partsBelow m s k = ltZ (partsDeviation s k) (pos 0) && exceeds (lineParts * m) s
 
 -- ---- what the paper asks of a line
 
+-- the greatest whole number that does not pass a test; the least
+pub record IsGreatestNot (test : ℤ → Bool) (k : ℤ) : Type 0 where
+  pub is-not : test k ≡ false
+  pub greatest : (j : ℤ) → test j ≡ false → leZ j k ≡ true
+
+pub record IsLeastNot (test : ℤ → Bool) (k : ℤ) : Type 0 where
+  pub is-not : test k ≡ false
+  pub least : (j : ℤ) → test j ≡ false → leZ k j ≡ true
+
 -- "An upper limit is the greatest multiple of 1/256 not above the exact limit"
-pub record IsUpperLine (m : ℕ) (s : Sums) (k : ℤ) : Type 0 where
-  pub not-above : partsAbove m s k ≡ false
-  pub greatest : (j : ℤ) → partsAbove m s j ≡ false → leZ j k ≡ true
+abbrev pub IsUpperLine : ℕ → Sums → ℤ → Type 0
+IsUpperLine m s k = IsGreatestNot (partsAbove m s) k
 
 -- "a lower limit the least multiple not below it"
-pub record IsLowerLine (m : ℕ) (s : Sums) (k : ℤ) : Type 0 where
-  pub not-below : partsBelow m s k ≡ false
-  pub least : (j : ℤ) → partsBelow m s j ≡ false → leZ k j ≡ true
+abbrev pub IsLowerLine : ℕ → Sums → ℤ → Type 0
+IsLowerLine m s k = IsLeastNot (partsBelow m s) k
 
 -- "the mean line the greatest not above T/n"
-pub record IsMeanLine (s : Sums) (k : ℤ) : Type 0 where
-  pub not-above : partsAboveMean s k ≡ false
-  pub greatest : (j : ℤ) → partsAboveMean s j ≡ false → leZ j k ≡ true
+abbrev pub IsMeanLine : Sums → ℤ → Type 0
+IsMeanLine s k = IsGreatestNot (partsAboveMean s) k
 
 -- ---- how a line is worked out
 
@@ -57,7 +63,8 @@ quotientUp z n = negℤ (quotientDown (negℤ z) n)
 unfoldable pub greatestDeviation : ℕ → Sums → ℕ
 greatestDeviation m s = squareRoot (m * m * (s .n * natAbs (vOf s)) / (s .n - 1))
 
--- n·k is at most 256·T + d, and at least 256·T − d, for the greatest d within (256·m)·S
+-- with d the greatest deviation that is not more than (256·m)·S: the greatest k for which n·k is at most 256·T + d, and the least k for
+-- which n·k is at least 256·T − d
 unfoldable pub upperLine : ℕ → Sums → ℤ
 upperLine m s = quotientDown (pos lineParts *ℤ s .t +ℤ pos (greatestDeviation (lineParts * m) s)) (s .n)
 

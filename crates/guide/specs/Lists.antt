@@ -1,4 +1,5 @@
--- Document 01, "Lists": where the machine starts. A list of calls takes the state from here through `Machine.after` and `Machine.answers`.
+-- Document 01, "Lists": where the machine starts. From here `Machine.after` gives the state after a list of calls, and `Machine.answers` what
+-- they answer.
 use Prim.Native.Nat.{ℕ}
 use Rattle.guide.specs.State.{State}
 use Rattle.guide.specs.Building as build

@@ -1,10 +1,10 @@
 // The calls of a list: whether numbers are one, and the call that stands at a place of it.
-use answers::Said;
-use answers::put_answer;
-use answers::said_by_correction;
-use answers::said_by_post;
-use answers::said_by_reanalysis;
-use answers::said_by_renewal;
+use crate::answers::Said;
+use crate::answers::put_answer;
+use crate::answers::said_by_correction;
+use crate::answers::said_by_post;
+use crate::answers::said_by_reanalysis;
+use crate::answers::said_by_renewal;
 use chart::Chart;
 ghost use mathlib.Core.Path.{_≡_};
 ghost use Prim.Native.Nat.{_+_, _≤_};
