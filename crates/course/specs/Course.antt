@@ -17,6 +17,10 @@ use Rattle.course.specs.declared.show.Reading.{Reading}
 unfoldable pub around : ℤ → ℤ → ℤ → List ℤ
 around below above mean = replicate 7 below ++ (replicate 7 above ++ (mean ∷ []))
 
+-- n words a, m words b and l words c
+unfoldable pub runsOf : (a : ℤ) (n : ℕ) (b : ℤ) (m : ℕ) (c : ℤ) (l : ℕ) → List ℤ
+runsOf a n b m c l = replicate n a ++ (replicate m b ++ replicate l c)
+
 -- the chart that building gives
 unfoldable pub chartOn : ℕ → List ℤ → Chart
 chartOn kind words = chartAfter (building kind words)

@@ -1,14 +1,18 @@
-// Runs the figures of the course about words, charts, the calls on a chart and stored forms, with cases at the edges of the paper's
-// rules, and prints each answer. What it prints is compared with the file `stdout`. No contract can say what is printed; a function here
+// Runs the figures of the course about words, charts, the calls on a chart, stored forms, lines and lists of calls, with cases at the
+// edges of the paper's rules, and prints each answer. What it prints is compared with the file `stdout`. No contract can say what is printed; a function here
 // answers the word or the chart that it prints, and one that runs several figures the chart that later figures go on from, or the last.
+mod drawn;
 mod forms;
+mod listed;
 mod show;
 mod stored;
 
 use chart::Built;
 use chart::Chart;
+use drawn::drawn_lines;
 use forms::stored_forms;
 use libc::STDOUT_FILENO;
+use listed::lists_run;
 use show::show_build;
 use show::show_chart;
 use show::show_correction;
@@ -67,10 +71,12 @@ fn main() {
     renewals(a, f, free);
     handed_in(a, one, side);
     stored_forms(a);
+    drawn_lines(a, k, z);
+    lists_run(a);
 }
 
 // The fifteen words: seven below the mean, seven above it, and the mean.
-fn around(below: i16, above: i16, mean: i16) -> [i16; 15]
+pub fn around(below: i16, above: i16, mean: i16) -> [i16; 15]
     ensures { λ r. ⌜ r ≡ course.around below above mean ⌝ }
 {
     let mut words = [above; 15];
@@ -80,7 +86,7 @@ fn around(below: i16, above: i16, mean: i16) -> [i16; 15]
 }
 
 // Puts w in the first n places.
-fn fill_front(words: &mut [i16], n: usize, w: i16) -> usize
+pub fn fill_front(words: &mut [i16], n: usize, w: i16) -> usize
     requires { ⌜ n ≤ length (now words) ⌝ }
     ensures { λ r. ⌜ (r ≡ n) × (now (words .exit) ≡ replicate n w ++ drop n (now (words .entry))) ⌝ }
 {
@@ -92,7 +98,7 @@ fn fill_front(words: &mut [i16], n: usize, w: i16) -> usize
     n
 }
 
-fn chart_on(kind: u16, words: &[i16]) -> Chart
+pub fn chart_on(kind: u16, words: &[i16]) -> Chart
     ensures { λ r. ⌜ r ≡ chartOn kind (now (words .entry)) ⌝ }
 {
     let r = Chart::build(kind, words);

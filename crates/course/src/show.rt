@@ -283,7 +283,7 @@ pub fn show_refusal(n: u16) -> u16
     n
 }
 
-fn show_number(w: i16) -> i16
+pub fn show_number(w: i16) -> i16
     ensures { λ r. ⌜ r ≡ w ⌝ }
 {
     if w < 0 {

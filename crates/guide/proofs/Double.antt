@@ -13,7 +13,7 @@ use lib.Signed.{ltZ}
 use lib.Pow.{shl-lt}
 use lib.Ieee.{Float, nan, inf, fin, binary64, up, down, unlike, round, div, lt, below, ofInt, odd, fits, ofBits, toBits, size}
 use lib.Ieee.Exact.{HasValue, round-exact, odd-sign}
-use lib.Ieee.Fits.{down-pos, odd-fits}
+use lib.Ieee.Fits.{down-pos, odd-fits, div-fits}
 use lib.Ieee.Bits.{ofBits-toBits}
 use lib.Ieee.Nearest.{div-same}
 use lib.Ieee.Back.{round-whole}
@@ -199,10 +199,9 @@ double-fits (pos n) h = odd-format false n h
 double-fits (negsuc n) h = odd-format true (suc n) h
 
 -- the quotient that the machine works out is it
-pub quotient-is : (k : ℤ) → natAbs k < 2 ^ 53 → T (fits binary64 (div binary64 (ofInt binary64 k) (fin false 1 (pos 8))))
-    → div binary64 (ofInt binary64 k) (fin false 1 (pos 8)) ≡ doubleOf k
-quotient-is k h f =
-    denotes-unique _ (doubleOf k) k f (double-fits k h) (quotient-denotes (ofInt binary64 k) k h (whole-is k (le-of-lt h))) (double-denotes k)
+pub quotient-is : (k : ℤ) → natAbs k < 2 ^ 53 → div binary64 (ofInt binary64 k) (fin false 1 (pos 8)) ≡ doubleOf k
+quotient-is k h =
+    denotes-unique _ (doubleOf k) k (div-fits binary64 _ _) (double-fits k h) (quotient-denotes (ofInt binary64 k) k h (whole-is k (le-of-lt h))) (double-denotes k)
 
 -- ---- k is read off it
 

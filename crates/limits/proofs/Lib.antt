@@ -1,4 +1,4 @@
-mod Spread
+pub mod Spread
 mod Deviation
 mod Summing
 mod Comparison

@@ -1,0 +1,7 @@
+mod Quotients
+mod Bisection
+mod Deviations
+mod LineParts
+mod Doubles
+pub mod Comparing
+pub mod Drawing

@@ -84,12 +84,9 @@ floatBeyond (guide.twoSided mean lowerWarning upperWarning lowerControl upperCon
       upperControl = floatAbove upperControl w;
     }
 
-pub record IsAgainst (l : Lines) (w : ℤ) (b : BeyondEach) : Type 0 where
-  pub same : beyondSays b ≡ floatBeyond (linesSay l) w
-
 -- ---- what the functions within ask and give
 
--- the sums of two words or more, each of them in a range of the paper: (256·3)²·n·V then fits 64 bits
+-- the sums of two words or more whose squares are together no more than those of words in range: (256·3)²·n·V then fits 64 bits
 pub record Drawable (s : Sums) : Type 0 where
   pub bounded : Bounded s
   pub two : 2 ≤ s .n

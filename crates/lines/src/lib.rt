@@ -18,12 +18,12 @@ use parts::upper_parts;
 ghost use mathlib.Core.Path.{_≡_};
 ghost use Prim.Native.Nat.{_≤_, _^_};
 ghost use lib.IntN.{natAbs};
-ghost use lib.Ieee.{lt, ofInt, binary64};
 ghost use Rattle.guide.specs.Double.{doubleOf};
 ghost use Rattle.guide.specs.Lines as guide;
 ghost use Rattle.guide.specs.Drawing.{linesOf};
 ghost use Rattle.limits.specs.Sums.{sumsSay, limitsSay};
-ghost use Rattle.lines.specs.Lines.{Drawable, linesSay, drawingSays, againstSays, answerToLines, answerToAgainst, IsAgainst};
+ghost use Rattle.lines.specs.Lines.{beyondSays, floatAbove, floatBelow, floatBeyond};
+ghost use Rattle.lines.specs.Lines.{Drawable, linesSay, drawingSays, againstSays, answerToLines, answerToAgainst};
 
 pub struct TwoSidedLines {
     pub mean: f64,
@@ -87,7 +87,7 @@ pub fn against_lines(chart: Chart, word: i16) -> AgainstAnswer
 
 // A word against lines, whatever their doubles are.
 pub fn beyond_lines(lines: Lines, word: i16) -> BeyondEach
-    ensures { λ r. ⌜ IsAgainst lines word r ⌝ }
+    ensures { λ r. ⌜ beyondSays r ≡ floatBeyond (linesSay lines) word ⌝ }
 {
     match lines {
         Lines::Duplicate {
@@ -111,13 +111,13 @@ pub fn beyond_lines(lines: Lines, word: i16) -> BeyondEach
 
 // A word on a line is not beyond it.
 fn above_line(line: f64, word: i16) -> bool
-    ensures { λ r. ⌜ r ≡ lt line (ofInt binary64 word) ⌝ }
+    ensures { λ r. ⌜ r ≡ floatAbove line word ⌝ }
 {
     line < (word as f64)
 }
 
 fn below_line(line: f64, word: i16) -> bool
-    ensures { λ r. ⌜ r ≡ lt (ofInt binary64 word) line ⌝ }
+    ensures { λ r. ⌜ r ≡ floatBelow line word ⌝ }
 {
     (word as f64) < line
 }
@@ -173,7 +173,7 @@ fn lower_line(m: u8, s: Sums) -> f64
     line_of(lower_parts(m, s))
 }
 
-// k / 256: both are whole numbers that a double holds, and the quotient is one too.
+// k / 256: a double holds both, and their quotient.
 fn line_of(k: i64) -> f64
     requires { ⌜ natAbs k ≤ 2 ^ 34 ⌝ }
     ensures { λ r. ⌜ r ≡ doubleOf k ⌝ }

@@ -64,7 +64,7 @@ fn square_root(q: u64) -> u32
     ensures { λ r. ⌜ r ≡ squareRoot q ⌝ }
 {
     let mut low: u64 = 0;
-    // One more than the greatest number of 32 bits, whose square no longer fits 64 bits.
+    // The first number past 32 bits, whose square is past 64 bits: it is never squared.
     let mut high: u64 = 4294967296;
     while low + 1 < high {
         let middle = low + (high - low) / 2;
@@ -77,7 +77,7 @@ fn square_root(q: u64) -> u32
     low as u32
 }
 
-// z / n rounded up: the other way round, −z / n rounded down.
+// z / n rounded up: minus (−z / n rounded down).
 fn quotient_up(z: i64, n: u64) -> i64
     requires { ⌜ (natAbs z < 2 ^ 63) × (1 ≤ n) ⌝ }
     ensures { λ r. ⌜ r ≡ guide.quotientUp z n ⌝ }
@@ -85,7 +85,7 @@ fn quotient_up(z: i64, n: u64) -> i64
     0 - quotient_down(0 - z, n)
 }
 
-// z / n rounded down. Of a negative number `!z` is |z| − 1, and `!` of its quotient is the number rounded away from 0.
+// z / n rounded down. Of a negative z `!z` is |z| − 1, and `!` of (|z| − 1) / n is z / n rounded down.
 fn quotient_down(z: i64, n: u64) -> i64
     requires { ⌜ 1 ≤ n ⌝ }
     ensures { λ r. ⌜ r ≡ guide.quotientDown z n ⌝ }

@@ -7,7 +7,7 @@ use lib.ListN.{length}
 use Rattle.guide.specs.Sizes.{baseLeast}
 use Rattle.guide.specs.State.{State, limitsFor}
 use Rattle.guide.specs.Machine.{Call, Answer, after, answers}
-use Rattle.guide.specs.Drawing.{DrawingAnswer, drawn, linesOf, Draws}
+use Rattle.guide.specs.Drawing.{DrawingAnswer, drawn, linesOf, DrawsAnswer}
 use Rattle.chart.specs.declared.Chart.{Chart}
 use Rattle.chart.specs.Chart.{stateOf, chartOf}
 use Rattle.chart.specs.Soundness.{soundChart}
@@ -25,5 +25,5 @@ pub record Claim (s : State) (calls : List Call) (chart : Chart) (said : List An
   pub ten : baseLeast ≤ length (stateOf chart .base)
   -- lines are answered ..
   pub answered : drawing ≡ drawn (linesOf (limitsFor (after s calls)))
-  -- .. each limit's double is the paper's, within 1/256 of the exact limit, and judges every word as the exact limit does
-  pub draws : Draws (limitsFor (after s calls)) (linesOf (limitsFor (after s calls)))
+  -- .. each line's double is the paper's and within 1/256, and each limit's judges every word as the exact limit does
+  pub draws : DrawsAnswer (limitsFor (after s calls)) drawing

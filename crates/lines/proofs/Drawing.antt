@@ -1,0 +1,120 @@
+-- The lines that limits give, and those of a chart. Of a sound chart the sums of its base are such that lines can be worked out from them
+-- (`drawable`), and a word is beyond a line exactly if it is beyond the exact limit (`lines-compared`). One that is not sound is declined.
+use mathlib.Core.Path.{_≡_, ap, _∙_}
+use mathlib.Core.Bool.{true, false}
+use Prim.Native.Nat.{ℕ}
+use native.Mathlib.Omega.{arith}
+use lib.ListN.{length}
+use lib.IntN.{ℤ, natAbs}
+use lib.Ieee.{Float}
+use mir.Syntax.{w16}
+use mir.Val.{SFits, toZ, ofZ}
+use mir.Facts.{toZ-ofZ}
+use Rattle.guide.specs.Kind.{hasLower}
+use Rattle.guide.specs.Limits as limits
+use Rattle.guide.specs.Limits.{sumsOf, limitsOf, sumOfSquares, controlMultiple, warningMultiple}
+use Rattle.guide.specs.State.{limitsFor}
+use Rattle.guide.specs.Double.{doubleOf}
+use Rattle.guide.specs.Lines.{upperLine, lowerLine, meanLine}
+use Rattle.guide.specs.Drawing as guide
+use Rattle.guide.specs.Drawing.{drawn, refused, linesOf, beyondEach}
+use Rattle.guide.proofs.Booleans.{by-test}
+use Rattle.guide.proofs.Held.{word-small}
+use Rattle.guide.proofs.Limits.{v-natural}
+use Rattle.guide.proofs.Lines.{judged-by-lines, in-range-squares}
+use Rattle.guide.proofs.Soundness.{sound-facts}
+use Rattle.limits.specs.declared.Limits.{Limits}
+use Rattle.limits.specs.Sums.{sumsSay, limitsSay, AreLimits}
+use Rattle.chart.specs.declared.Chart.{Chart}
+use Rattle.chart.specs.Chart.{stateOf}
+use Rattle.chart.specs.Soundness.{soundChart}
+use Rattle.chart.proofs.SoundCharts.{sound-chart-facts}
+use Rattle.lines.specs.declared.Lines.{Lines}
+use Rattle.lines.specs.declared.BeyondEach.{BeyondEach}
+use Rattle.lines.specs.declared.Lines.the-variants.{Duplicate, TwoSided}
+use Rattle.lines.specs.Lines.{linesSay, beyondSays, compared, declined, answerToLines, answerToAgainst, floatBeyond}
+use Rattle.lines.specs.Lines.{Drawable}
+use Rattle.lines.proofs.Comparing.{float-beyond}
+
+-- ---- the lines that limits give, line by line
+
+module _ (l : Limits) (mean upperWarning upperControl : Float)
+    (m : mean ≡ doubleOf (meanLine (sumsSay (l .sums))))
+    (uw : upperWarning ≡ doubleOf (upperLine warningMultiple (sumsSay (l .sums))))
+    (uc : upperControl ≡ doubleOf (upperLine controlMultiple (sumsSay (l .sums)))) where
+  pub duplicate-lines : hasLower (l .kind) ≡ false → linesSay (Duplicate mean upperWarning upperControl) ≡ linesOf (limitsSay l)
+  unfolding linesSay linesOf
+  duplicate-lines t = rw t (λ i. guide.duplicate (m i) (uw i) (uc i))
+
+  pub two-sided-lines : (lowerWarning lowerControl : Float) → lowerWarning ≡ doubleOf (lowerLine warningMultiple (sumsSay (l .sums)))
+      → lowerControl ≡ doubleOf (lowerLine controlMultiple (sumsSay (l .sums))) → hasLower (l .kind) ≡ true
+      → linesSay (TwoSided (record {
+        mean = mean;
+        «lower_warning» = lowerWarning;
+        «upper_warning» = upperWarning;
+        «lower_control» = lowerControl;
+        «upper_control» = upperControl;
+      })) ≡ linesOf (limitsSay l)
+  unfolding linesSay linesOf
+  two-sided-lines lowerWarning lowerControl lw lc t = rw t (λ i. guide.twoSided (m i) (lw i) (uw i) (lc i) (uc i))
+
+-- ---- a sound chart
+
+module _ (c : Chart) (t : soundChart c ≡ true) where
+  -- lines can be worked out from the sums of its base
+  pub drawable : (l : Limits) → AreLimits (c .kind) (stateOf c .base) l → Drawable (l .sums)
+  unfolding stateOf limitsOf sumsOf
+  drawable l are =
+      let s = stateOf c in
+      let facts = sound-facts s (sound-chart-facts c t .state) in
+      let n : l .sums .n ≡ length (s .base) = ap (λ (x : limits.Limits). x .sums .n) (are .same) in
+      let q : l .sums .q ≡ natAbs (sumOfSquares (s .base)) = ap (λ (x : limits.Limits). natAbs (x .sums .q)) (are .same) in
+      record {
+        bounded = are .bounded;
+        two = omega (arith, facts .base-least);
+        squares = omega (arith, in-range-squares (s .kind) (s .base) (facts .base-in-range));
+      }
+
+  pub lines-drawn : (lines : Lines) (l : Limits) → AreLimits (c .kind) (stateOf c .base) l → linesSay lines ≡ linesOf (limitsSay l)
+      → drawn (linesSay lines) ≡ answerToLines c
+  unfolding answerToLines limitsFor stateOf
+  lines-drawn lines l are e = rw t (ap drawn (e ∙ ap linesOf (are .same)))
+
+  -- a word against its lines is the word against its limits
+  judged-by-chart : (w : ℤ) → guide.beyondLines (linesOf (limitsFor (stateOf c))) w ≡ beyondEach (limitsFor (stateOf c)) w
+  unfolding limitsFor limitsOf sumsOf
+  judged-by-chart w =
+      let s = stateOf c in
+      let facts = sound-facts s (sound-chart-facts c t .state) in
+      judged-by-lines (limitsFor s) w (omega (arith, facts .base-least)) (v-natural (s .base))
+
+-- ---- one that is not sound
+
+pub lines-declined : (c : Chart) → soundChart c ≡ false → refused 14 ≡ answerToLines c
+unfolding answerToLines
+lines-declined c t = rw t
+
+-- ---- a word against the lines that were answered
+
+module _ (c : Chart) (w : ℤ) where
+  pub lines-compared : (lines : Lines) (b : BeyondEach) → SFits w16 w → drawn (linesSay lines) ≡ answerToLines c
+      → beyondSays b ≡ floatBeyond (linesSay lines) (toZ w16 (ofZ w16 w)) → compared (beyondSays b) ≡ answerToAgainst c w
+  unfolding answerToLines answerToAgainst
+  lines-compared lines b fit e is =
+      let limits = limitsFor (stateOf c) in
+      by-test (soundChart c)
+      (λ t. let f : drawn (linesSay lines) ≡ drawn (linesOf limits) = rw t at e in
+      let same : linesSay lines ≡ linesOf limits = cc in
+      let held : beyondSays b ≡ floatBeyond (linesSay lines) w = rw (toZ-ofZ fit) at is in
+      let few = word-small fit in
+      rw t (ap compared (held ∙ ap (λ x. floatBeyond x w) same ∙ float-beyond w (omega arith) limits ∙ judged-by-chart c t w)))
+      (λ t. let f : drawn (linesSay lines) ≡ refused 14 = rw t at e in
+      let z : _≡_ {A = ℕ} 0 1 = cc in absurd (omega arith))
+
+  pub comparison-declined : (n : ℕ) → refused n ≡ answerToLines c → declined n ≡ answerToAgainst c w
+  unfolding answerToLines answerToAgainst
+  comparison-declined n e =
+      by-test (soundChart c)
+      (λ t. let f : refused n ≡ drawn (linesOf (limitsFor (stateOf c))) = rw t at e in
+      let z : _≡_ {A = ℕ} 0 1 = cc in absurd (omega arith))
+      (λ t. let f : refused n ≡ refused 14 = rw t at e in rw t (let same : n ≡ 14 = cc in ap declined same))
