@@ -20,4 +20,5 @@ pub mod Reading
 pub mod SquareRoot
 pub mod Double
 pub mod Lines
+pub mod Lists
 pub mod Figures

@@ -1,5 +1,6 @@
--- Laws of the machine: how a step can go (`step-ind`), every step keeps soundness (`step-sound`) and answers no refusal 14
--- (`step-not-fourteen`). So it is with a run of any calls from a sound state (`sound-run`), and from what building gives (`built-run`).
+-- Laws of the machine: how a step can go (`step-ind`), every step keeps soundness (`step-sound`), answers no refusal 14
+-- (`step-not-fourteen`), and a renewal's counts are small (`renewed-small`). So it is with a run of any calls from a sound state
+-- (`sound-run`), and from what building gives (`built-run`).
 use mathlib.Core.Path.{_≡_, refl, sym, ap, _∙_}
 use mathlib.Core.Bool.{Bool, true, false, not}
 use mathlib.Core.List.{List, [], _∷_, _++_, List·Memᴰ as Among, List·Memᴰ·head as first, List·Memᴰ·tail as later}
@@ -15,6 +16,7 @@ use Rattle.guide.specs.Kind.{inRange}
 use Rattle.guide.specs.Word as word
 use Rattle.guide.specs.Limits.{Limits, beyondControl}
 use Rattle.guide.specs.AllOf.{noneOf}
+use Rattle.guide.specs.Rejection.{rejection}
 use Rattle.guide.specs.LastWords.{lastWords, butLast}
 use Rattle.guide.specs.State.{State, limitsFor, addWord, replaceLast, setStatus}
 use Rattle.guide.specs.Building.{allInRange, built, building}
@@ -26,6 +28,7 @@ use Rattle.guide.specs.Machine.{Next, declined, postRefusal, reanalysisR
 use Rattle.guide.specs.Machine.{posting, afterReanalysis, reanalysing, correcting, renewing, unlessRefused, step, after, answers}
 use Rattle.guide.proofs.Booleans.{both, by-test}
 use Rattle.guide.proofs.Choice.{choose-ind, require-ind, require-zero}
+use Rattle.guide.proofs.Rejection.{rejection-counts, rejection-rounds}
 use Rattle.guide.proofs.InOrder.{in-range-some, in-range-joined, in-range-added, none-added}
 use Rattle.guide.proofs.LastWords.{length-added, but-last-added, but-last-in-order, length-but-last, last-words-in-order}
 use Rattle.guide.proofs.LastWords.{length-last-words}
@@ -290,6 +293,33 @@ step-refusal s =
 -- .. so not by 14
 pub step-not-fourteen : (s : State) (call : Call) → step s call .answer ≡ refused 14 → ⊥
 step-not-fourteen s call e = omega (arith, step-refusal s call, ap refusalNumber e)
+
+-- ---- a renewal's counts
+
+-- what `renewed-small` says of an answer
+abbrev SmallCounts : Answer → Type 0
+SmallCounts answer = (rounds removed : ℕ) → answer ≡ renewed rounds removed → (rounds ≤ suc baseWanted) × (removed ≤ baseWanted)
+
+renewing-small : (s : State) → baseWanted ≤ length (s .base) + length (s .series) → SmallCounts (renewing s .answer)
+unfolding renewing
+renewing-small s enough rounds removed e =
+    let words = lastWords baseWanted (s .base ++ s .series) in
+    let count = length-last-words baseWanted (s .base ++ s .series) (omega (arith, length-append (s .base) (s .series))) in
+    let same-rounds : rejection (s .kind) words .rounds ≡ rounds = cc in
+    let same-removed : rejection (s .kind) words .removed ≡ removed = cc in
+    omega (arith, rejection-counts (s .kind) words, rejection-rounds (s .kind) words)
+
+-- rejection from fifteen words takes at most sixteen rounds and removes at most fifteen, from any state at all
+pub renewed-small : (s : State) (call : Call) (rounds removed : ℕ) → step s call .answer ≡ renewed rounds removed
+    → (rounds ≤ suc baseWanted) × (removed ≤ baseWanted)
+unfolding posting reanalysing correcting
+renewed-small s =
+    step-ind s (λ next. SmallCounts (next .answer))
+    (λ n within rounds removed e. let z : _≡_ {A = ℕ} 0 1 = cc in absurd (omega arith))
+    (λ w free room r rounds removed e. let z : _≡_ {A = ℕ} 0 1 = cc in absurd (omega arith))
+    (λ w due r rounds removed e. let z : _≡_ {A = ℕ} 0 1 = cc in absurd (omega arith))
+    (λ due rounds removed e. let z : _≡_ {A = ℕ} 0 1 = cc in absurd (omega arith))
+    (λ free enough. renewing-small s enough)
 
 -- ---- runs. The state after the first calls of a list is itself a state after a list, so what holds after any list holds of every state
 -- that a run reaches

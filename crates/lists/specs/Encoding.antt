@@ -21,7 +21,7 @@ answerSize = 3
 unfoldable pub isCallNumber : ℤ → Bool
 isCallNumber z = leZ (pos 1) z && leZ z (pos 4)
 
--- a kind of sixteen bits is itself; any other number, like 0, is no chart's kind
+-- a kind of sixteen bits is itself; any other number is 0, which like it is no chart's kind
 unfoldable pub kindOf : ℤ → ℕ
 kindOf (pos n) = choose (leb n 65535) n 0
 kindOf (negsuc n) = 0
@@ -30,7 +30,8 @@ unfoldable pub isNumber : ℕ → ℤ → Bool
 isNumber n (pos k) = eqb k n
 isNumber n (negsuc k) = false
 
--- the call of this number; what a correction or a renewal has beside is not looked at
+-- the call of this number: 1, 2, 3, or else a renewal, which is 4 where the numbers are calls. What a correction or a renewal has beside
+-- it is not looked at
 unfoldable pub callOf : (number : ℤ) (kind : ℕ) (a b c : ℤ) → Call
 callOf number kind a b c =
     choose (isNumber 1 number) (post kind a b c)
@@ -78,5 +79,5 @@ unfoldable pub hasRoom : List ℤ → List ℤ → Bool
 hasRoom calls room = leb (answerSize * length (callsIn calls)) (length room)
 
 -- the answers at the front of the buffer, and all after them as it was
-unfoldable pub answered : List Answer → List ℤ → List ℤ
-answered said room = allNumbersOf said ++ drop (length (allNumbersOf said)) room
+unfoldable pub withAnswers : List Answer → List ℤ → List ℤ
+withAnswers said room = allNumbersOf said ++ drop (length (allNumbersOf said)) room

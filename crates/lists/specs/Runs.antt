@@ -1,4 +1,5 @@
--- What running an encoded list gives: the claim, or a refusal.
+-- What running an encoded list gives: the claim, or a refusal. Document 01 knows no encoded list, so what a list is declined for besides its
+-- start has no number of the paper's.
 use mathlib.Core.Path.{_≡_}
 use mathlib.Core.List.{List, [], _∷_}
 use Prim.Native.Nat.{ℕ, zero, suc, _+_, _≤_}
@@ -6,8 +7,9 @@ use lib.ListN.{getD}
 use lib.Seq.{sets}
 use lib.IntN.{ℤ, pos}
 use Rattle.guide.specs.Choice.{require}
+use Rattle.guide.specs.Sizes.{baseWanted}
 use Rattle.guide.specs.State.{State}
-use Rattle.guide.specs.Machine.{Call, Answer}
+use Rattle.guide.specs.Machine.{Call, Answer, renewed}
 use Rattle.guide.specs.Drawing.{refused}
 use Rattle.guide.specs.Lists as guide
 use Rattle.chart.specs.declared.Chart.{Chart}
@@ -17,59 +19,76 @@ use Rattle.lines.specs.Lines.{drawingSays, answerToLines}
 use Rattle.lists.specs.declared.Run.{Run}
 use Rattle.lists.specs.declared.Start.{Start}
 use Rattle.lists.specs.declared.RunAnswer.{RunAnswer}
-use Rattle.lists.specs.declared.RunAnswer.the-variants.{Done, StartRefused, NotCalls, NoRoom}
+use Rattle.lists.specs.declared.RunAnswer.the-variants as run
 use Rattle.lists.specs.declared.calls.Called.{Called}
 use Rattle.lists.specs.declared.answers.Said.{Said}
-use Rattle.lists.specs.Encoding.{kindOf, callOf, areCalls, callsIn, hasRoom, numbersOf, answered}
+use Rattle.lists.specs.Encoding.{kindOf, callOf, areCalls, callsIn, hasRoom, numbersOf, withAnswers}
 use Rattle.lists.specs.Claim.{Claim}
 
 -- ---- what comes of a list
 
--- it is run from this start, or declined by this answer
+-- the list was run; building or reading declined its start, by this number; the numbers are no list; the buffer has no room for the answers
+pub data RunSaid : Type 0 where
+  done : RunSaid
+  startRefused : ℕ → RunSaid
+  notCalls : RunSaid
+  noRoom : RunSaid
+
+unfoldable pub runSays : RunAnswer → RunSaid
+runSays run.Done = done
+runSays (run.StartRefused n) = startRefused n
+runSays run.NotCalls = notCalls
+runSays run.NoRoom = noRoom
+
+-- it is run from this start, or declined
 pub data Outcome (A : Type 0) : Type 0 where
   runs : A → Outcome A
-  declines : RunAnswer → Outcome A
+  declines : RunSaid → Outcome A
 
 -- numbers that are no list are declined first, then a buffer without room for all answers, and then a start that is declined
 unfoldable pub outcomeOf : {A : Type 0} → (start : Outcome A) (calls room : List ℤ) → Outcome A
-outcomeOf start calls room = require (areCalls calls) (declines NotCalls) (require (hasRoom calls room) (declines NoRoom) start)
+outcomeOf start calls room = require (areCalls calls) (declines notCalls) (require (hasRoom calls room) (declines noRoom) start)
 
 -- the machine's start, or the number by which building or reading declined
 unfoldable pub machineStart : guide.Start → Outcome State
 machineStart (guide.begun s) = runs s
-machineStart (guide.declined n) = declines (StartRefused n)
+machineStart (guide.declined n) = declines (startRefused n)
 
 -- a list that is run: the claim of its chart, its answers and its lines, and the answers at the front of the buffer
 pub record Ran (s : State) (calls : List Call) (room out : List ℤ) (r : Run) : Type 0 where
-  pub answer : r .answer ≡ Done
+  pub says : runSays (r .answer) ≡ done
   pub said : List Answer
   pub claim : Claim s calls (r .chart) said (drawingSays (r .lines))
-  pub buffer : out ≡ answered said room
+  pub buffer : out ≡ withAnswers said room
 
 -- nothing is run: the chart of zeros, of which there are no lines
-pub record NothingRun (answer : RunAnswer) (r : Run) : Type 0 where
-  pub says : r .answer ≡ answer
+pub record NothingRun (answer : RunSaid) (r : Run) : Type 0 where
+  pub says : runSays (r .answer) ≡ answer
   pub chart : r .chart ≡ zeroChart
   pub lines : drawingSays (r .lines) ≡ refused 14
 
 -- a list that is declined: every number of the buffer is as it was
-pub record Declined (answer : RunAnswer) (room out : List ℤ) (r : Run) : Type 0 where
+pub record Declined (answer : RunSaid) (room out : List ℤ) (r : Run) : Type 0 where
   pub nothing : NothingRun answer r
   pub buffer : out ≡ room
 
+abbrev pub RunGives : Outcome State → (calls room out : List ℤ) → Run → Type 0
+RunGives (runs s) calls room out r = Ran s (callsIn calls) room out r
+RunGives (declines answer) calls room out r = Declined answer room out r
+
 -- the contract of running a list
-abbrev pub Gives : Outcome State → (calls room out : List ℤ) → Run → Type 0
-Gives (runs s) calls room out r = Ran s (callsIn calls) room out r
-Gives (declines answer) calls room out r = Declined answer room out r
+abbrev pub RunsList : guide.Start → (calls room out : List ℤ) → Run → Type 0
+RunsList start calls room out r = RunGives (outcomeOf (machineStart start) calls room) calls room out r
 
 -- ---- what the functions within give
 
--- the program's start: the machine's, with 0 for a number, or the number of a refusal, which is not 0
+-- the program's start: the machine's, with 0 for a number; or the number of a refusal, which is not 0, with the chart of zeros
 pub record Begins (s : State) (start : Start) : Type 0 where
   pub chart : start .chart ≡ chartOf s
   pub refusal : start .refusal ≡ 0
 
 pub record DoesNotBegin (n : ℕ) (start : Start) : Type 0 where
+  pub chart : start .chart ≡ zeroChart
   pub refusal : start .refusal ≡ n
   pub some : 1 ≤ n
 
@@ -79,26 +98,26 @@ IsStart (guide.declined n) start = DoesNotBegin n start
 
 -- a list that is run on any chart
 pub record RanOn (c : Chart) (calls room out : List ℤ) (r : Run) : Type 0 where
-  pub answer : r .answer ≡ Done
+  pub says : runSays (r .answer) ≡ done
   pub chart : r .chart ≡ chartAfterCalls c (callsIn calls)
-  pub buffer : out ≡ answered (answersTo c (callsIn calls)) room
+  pub buffer : out ≡ withAnswers (answersTo c (callsIn calls)) room
   pub lines : drawingSays (r .lines) ≡ answerToLines (r .chart)
 
-abbrev pub startWith : Chart → ℕ → Outcome Chart
-startWith c zero = runs c
-startWith c (suc n) = declines (StartRefused (suc n))
+abbrev pub startOn : Chart → ℕ → Outcome Chart
+startOn c zero = runs c
+startOn c (suc n) = declines (startRefused (suc n))
 
-abbrev pub GivesOn : Outcome Chart → (calls room out : List ℤ) → Run → Type 0
-GivesOn (runs c) calls room out r = RanOn c calls room out r
-GivesOn (declines answer) calls room out r = Declined answer room out r
+abbrev pub RunGivesOn : Outcome Chart → (calls room out : List ℤ) → Run → Type 0
+RunGivesOn (runs c) calls room out r = RanOn c calls room out r
+RunGivesOn (declines answer) calls room out r = Declined answer room out r
 
 abbrev pub RunsFrom : Start → (calls room out : List ℤ) → Run → Type 0
-RunsFrom start calls room out r = GivesOn (outcomeOf (startWith (start .chart) (start .refusal)) calls room) calls room out r
+RunsFrom start calls room out r = RunGivesOn (outcomeOf (startOn (start .chart) (start .refusal)) calls room) calls room out r
 
 -- the chart after the calls, and their answers
 pub record RunsCalls (c : Chart) (calls room out : List ℤ) (after : Chart) : Type 0 where
   pub chart : after ≡ chartAfterCalls c (callsIn calls)
-  pub buffer : out ≡ answered (answersTo c (callsIn calls)) room
+  pub buffer : out ≡ withAnswers (answersTo c (callsIn calls)) room
 
 -- the call that stands at a place of the numbers
 unfoldable pub callAt : List ℤ → ℕ → Call
@@ -109,12 +128,16 @@ callAt calls at =
 unfoldable pub saidNumbers : Said → List ℤ
 saidNumbers s = s .number ∷ s .first ∷ s .second ∷ []
 
+-- the counts that an answer may hold: a renewal rejects from 15 words, and each of its rounds but the last removes one
+abbrev pub Counted : Answer → Type 0
+Counted answer = (rounds removed : ℕ) → answer ≡ renewed rounds removed → (rounds ≤ suc baseWanted) × (removed ≤ baseWanted)
+
 -- one call
-pub record Calls (c : Chart) (call : Call) (r : Called) : Type 0 where
+pub record IsCalled (c : Chart) (call : Call) (r : Called) : Type 0 where
   pub chart : r .chart ≡ nextChart c call
   pub says : saidNumbers (r .said) ≡ numbersOf (answerTo c call)
 
--- one call of the list, with its answer put into the buffer
-pub record Turns (c : Chart) (calls : List ℤ) (at : ℕ) (room : List ℤ) (place : ℕ) (out : List ℤ) (r : Chart) : Type 0 where
+-- the call at a place of the list, with its answer put into the buffer
+pub record IsCalledAt (c : Chart) (calls : List ℤ) (at : ℕ) (room : List ℤ) (place : ℕ) (out : List ℤ) (r : Chart) : Type 0 where
   pub chart : r ≡ nextChart c (callAt calls at)
   pub buffer : out ≡ sets room place (numbersOf (answerTo c (callAt calls at)))

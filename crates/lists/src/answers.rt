@@ -10,9 +10,9 @@ ghost use lib.Seq.{sets};
 ghost use Rattle.guide.specs.Machine.{refused};
 ghost use Rattle.chart.specs.Calls.{postSays, reanalysisSays, correctionSays, renewalSays};
 ghost use Rattle.lists.specs.Encoding.{answerSize, numbersOf};
-ghost use Rattle.lists.specs.Runs.{saidNumbers};
+ghost use Rattle.lists.specs.Runs.{saidNumbers, Counted};
 
-// The numbers of an answer.
+// How many numbers an answer has.
 pub const ANSWER_SIZE: usize = 3;
 
 pub struct Said {
@@ -66,7 +66,9 @@ pub fn said_by_correction(answer: CorrectionAnswer) -> Said
     }
 }
 
+// The counts of a renewal are small, and so keep their value in a number with a sign.
 pub fn said_by_renewal(answer: RenewalAnswer) -> Said
+    requires { ⌜ Counted (renewalSays answer) ⌝ }
     ensures { λ r. ⌜ saidNumbers r ≡ numbersOf (renewalSays answer) ⌝ }
 {
     match answer {
@@ -84,9 +86,12 @@ pub fn put_answer(answers: &mut [i64], place: usize, said: Said)
     requires { ⌜ place + answerSize ≤ length (now answers) ⌝ }
     ensures { λ _. ⌜ now (answers .exit) ≡ sets (now (answers .entry)) place (saidNumbers said) ⌝ }
 {
-    answers[place] = said.number;
-    answers[place + 1] = said.first;
-    answers[place + 2] = said.second;
+    let number = said.number;
+    let first = said.first;
+    let second = said.second;
+    answers[place] = number;
+    answers[place + 1] = first;
+    answers[place + 2] = second;
 }
 
 fn refusal(n: u16) -> Said

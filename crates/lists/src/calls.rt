@@ -1,4 +1,4 @@
-// The calls of a list: whether numbers are one, and the call that stands at a place of it.
+// The calls of a list: whether numbers are a list, and the call that stands at a place of it.
 use crate::answers::Said;
 use crate::answers::put_answer;
 use crate::answers::said_by_correction;
@@ -10,9 +10,9 @@ ghost use mathlib.Core.Path.{_≡_};
 ghost use Prim.Native.Nat.{_+_, _≤_};
 ghost use lib.ListN.{length};
 ghost use Rattle.lists.specs.Encoding.{isCallNumber, areCalls, kindOf, callOf, callSize, answerSize};
-ghost use Rattle.lists.specs.Runs.{Calls, Turns};
+ghost use Rattle.lists.specs.Runs.{IsCalled, IsCalledAt};
 
-// The numbers of a call.
+// How many numbers a call has.
 pub const CALL_SIZE: usize = 5;
 
 // What a call gave: the chart that it gave back, and its answer.
@@ -42,9 +42,9 @@ fn is_call_number(number: i64) -> bool
 }
 
 // The call that stands at a place of the list is made, and its answer is put into the buffer.
-pub fn turn(chart: Chart, calls: &[i64], at: usize, answers: &mut [i64], place: usize) -> Chart
+pub fn call_at(chart: Chart, calls: &[i64], at: usize, answers: &mut [i64], place: usize) -> Chart
     requires { ⌜ (at + callSize ≤ length (now calls)) × (place + answerSize ≤ length (now answers)) ⌝ }
-    ensures { λ r. ⌜ Turns chart (now (calls .entry)) at (now (answers .entry)) place (now (answers .exit)) r ⌝ }
+    ensures { λ r. ⌜ IsCalledAt chart (now (calls .entry)) at (now (answers .entry)) place (now (answers .exit)) r ⌝ }
 {
     let number = calls[at];
     let kind = kind_of(calls[at + 1]);
@@ -72,28 +72,32 @@ fn kind_of(number: i64) -> u16
 
 // One call on a chart.
 fn call(chart: Chart, number: i64, kind: u16, a: i64, b: i64, c: i64) -> Called
-    ensures { λ r. ⌜ Calls chart (callOf number kind a b c) r ⌝ }
+    ensures { λ r. ⌜ IsCalled chart (callOf number kind a b c) r ⌝ }
 {
     if number == 1 {
         let r = chart.post(kind, a, b, c);
         let after = r.chart;
-        let said = said_by_post(r.answer);
+        let answer = r.answer;
+        let said = said_by_post(answer);
         return Called { chart: after, said };
     }
     if number == 2 {
         let r = chart.reanalyse(kind, a, b, c);
         let after = r.chart;
-        let said = said_by_reanalysis(r.answer);
+        let answer = r.answer;
+        let said = said_by_reanalysis(answer);
         return Called { chart: after, said };
     }
     if number == 3 {
         let r = chart.correct();
         let after = r.chart;
-        let said = said_by_correction(r.answer);
+        let answer = r.answer;
+        let said = said_by_correction(answer);
         return Called { chart: after, said };
     }
     let r = chart.renew();
     let after = r.chart;
-    let said = said_by_renewal(r.answer);
+    let answer = r.answer;
+    let said = said_by_renewal(answer);
     Called { chart: after, said }
 }

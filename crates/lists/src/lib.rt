@@ -13,7 +13,7 @@ mod calls;
 use answers::ANSWER_SIZE;
 use calls::CALL_SIZE;
 use calls::are_calls;
-use calls::turn;
+use calls::call_at;
 use chart::BuildAnswer;
 use chart::Chart;
 use chart::zero_chart;
@@ -27,7 +27,7 @@ ghost use Rattle.guide.specs.Building.{building};
 ghost use Rattle.guide.specs.Reading.{reading};
 ghost use Rattle.guide.specs.Lists.{startOfBuilding, startOfReading};
 ghost use Rattle.lists.specs.Encoding.{areCalls, hasRoom};
-ghost use Rattle.lists.specs.Runs.{outcomeOf, machineStart, Gives, IsStart, RunsFrom, RunsCalls, NothingRun};
+ghost use Rattle.lists.specs.Runs.{RunsList, IsStart, RunsFrom, RunsCalls, NothingRun, runSays};
 
 pub enum RunAnswer {
     // The list was run, and its answers stand in the buffer.
@@ -55,7 +55,7 @@ struct Start {
 
 // Builds a chart from words, and runs a list of calls from it.
 pub fn run_from_words(kind: u16, words: &[i16], calls: &[i64], answers: &mut [i64]) -> Run
-    ensures { λ r. ⌜ Gives (outcomeOf (machineStart (startOfBuilding (building kind (now (words .entry))))) (now (calls .entry)) (now (answers .entry))) (now (calls .entry)) (now (answers .entry)) (now (answers .exit)) r ⌝ }
+    ensures { λ r. ⌜ RunsList (startOfBuilding (building kind (now (words .entry)))) (now (calls .entry)) (now (answers .entry)) (now (answers .exit)) r ⌝ }
 {
     let start = start_of_words(kind, words);
     run_from(start, calls, answers)
@@ -63,7 +63,7 @@ pub fn run_from_words(kind: u16, words: &[i16], calls: &[i64], answers: &mut [i6
 
 // Reads a chart from bytes, and runs a list of calls from it.
 pub fn run_from_bytes(bytes: &[u8], calls: &[i64], answers: &mut [i64]) -> Run
-    ensures { λ r. ⌜ Gives (outcomeOf (machineStart (startOfReading (reading (now (bytes .entry))))) (now (calls .entry)) (now (answers .entry))) (now (calls .entry)) (now (answers .entry)) (now (answers .exit)) r ⌝ }
+    ensures { λ r. ⌜ RunsList (startOfReading (reading (now (bytes .entry)))) (now (calls .entry)) (now (answers .entry)) (now (answers .exit)) r ⌝ }
 {
     let start = start_of_bytes(bytes);
     run_from(start, calls, answers)
@@ -118,7 +118,7 @@ fn run_from(start: Start, calls: &[i64], answers: &mut [i64]) -> Run
 
 // What comes where nothing is run.
 fn not_run(answer: RunAnswer) -> Run
-    ensures { λ r. ⌜ NothingRun answer r ⌝ }
+    ensures { λ r. ⌜ NothingRun (runSays answer) r ⌝ }
 {
     let chart = zero_chart();
     Run {
@@ -137,7 +137,7 @@ fn run_calls(start: Chart, calls: &[i64], answers: &mut [i64]) -> Chart
     let mut at: usize = 0;
     let mut place: usize = 0;
     while at < calls.len() {
-        chart = turn(chart, calls, at, answers, place);
+        chart = call_at(chart, calls, at, answers, place);
         at += CALL_SIZE;
         place += ANSWER_SIZE;
     }

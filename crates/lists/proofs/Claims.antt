@@ -1,0 +1,57 @@
+-- The claim of demand 3 over what a run of calls leaves (`claim-of-run`): the machine's run is the chart's, a sound state stays sound, and a sound
+-- state's base has words enough for lines that are as the paper asks.
+use mathlib.Core.Path.{_≡_, ap, _∙_}
+use mathlib.Core.Bool.{true}
+use mathlib.Core.List.{List}
+use Prim.Native.Nat.{_≤_}
+use native.Mathlib.Omega.{arith}
+use lib.ListN.{length}
+use Rattle.guide.specs.Sizes.{baseLeast}
+use Rattle.guide.specs.State.{State, limitsFor}
+use Rattle.guide.specs.Limits.{limitsOf, sumsOf}
+use Rattle.guide.specs.Soundness.{sound}
+use Rattle.guide.specs.Machine.{Call, Answer, after}
+use Rattle.guide.specs.Drawing.{DrawingAnswer, drawn, linesOf, Draws, DrawsAnswer}
+use Rattle.guide.proofs.Limits.{v-natural}
+use Rattle.guide.proofs.Lines.{draws-lines}
+use Rattle.chart.specs.declared.Chart.{Chart}
+use Rattle.chart.specs.Chart.{stateOf, chartOf}
+use Rattle.chart.specs.Soundness.{soundChart}
+use Rattle.chart.specs.Calls.{chartAfterCalls, answersTo}
+use Rattle.chart.proofs.State.{state-of-chart}
+use Rattle.chart.proofs.Runs.{sound-runs}
+use Rattle.lines.specs.Lines.{answerToLines}
+use Rattle.lists.specs.Claim.{Claim}
+
+-- ten words or more have lines
+draws-of-state : (s : State) → baseLeast ≤ length (s .base) → Draws (limitsFor s) (linesOf (limitsFor s))
+unfolding limitsFor limitsOf sumsOf
+draws-of-state s ten = draws-lines (limitsOf (s .kind) (s .base)) (omega arith) (v-natural (s .base))
+
+module _ (s : State) (calls : List Call) (chart : Chart) (said : List Answer) (drawing : DrawingAnswer)
+    (h : sound s ≡ true) (same : chart ≡ chartAfterCalls (chartOf s) calls) (says : said ≡ answersTo (chartOf s) calls)
+    (asked : drawing ≡ answerToLines chart) where
+  last-chart : chart ≡ chartOf (after s calls)
+  last-chart = same ∙ sound-runs s calls h .chart
+
+  last-state : stateOf chart ≡ after s calls
+  last-state = ap stateOf last-chart ∙ state-of-chart (after s calls)
+
+  last-sound : soundChart chart ≡ true
+  last-sound = ap soundChart same ∙ sound-runs s calls h .stays-sound
+
+  lines-answered : drawing ≡ drawn (linesOf (limitsFor (after s calls)))
+  unfolding answerToLines
+  lines-answered = asked ∙ rw (last-sound, last-state)
+
+  pub claim-of-run : Claim s calls chart said drawing
+  claim-of-run =
+      let ten = sound-runs s calls h .ten in
+      record {
+        same-chart = last-chart;
+        same-answers = says ∙ sound-runs s calls h .says;
+        sound = last-sound;
+        ten = rw last-state ten;
+        answered = lines-answered;
+        draws = rw lines-answered (draws-of-state (after s calls) ten);
+      }
