@@ -36,6 +36,7 @@ pub fn drawn_lines(a: Chart, k: Chart, z: Chart) -> usize
     show_lines(b"Z", z);
     show_against(b"Z", z, &[999, 1000, 1001]);
     duplicate_lines();
+    ten_words_lines();
     refused_lines(a)
 }
 
@@ -86,6 +87,21 @@ fn duplicate_lines() -> usize
     let g = chart_of_runs(1, 0, 7, 1, 5, 2, 13);
     show_lines(b"G", g);
     show_against(b"G", g, &[2, 3, 4])
+}
+
+// Seven words of 20000 and three of -20000: the upper control line takes more than 24 binary digits.
+fn ten_words_lines() -> usize
+    ensures { λ r. ⌜ r ≡ 2 ⌝ }
+{
+    let mut ten = chart_of_runs(2, 20000, 7, -20000, 8, 0, 0);
+    ten.base_len = 10;
+    ten.base[10] = 0;
+    ten.base[11] = 0;
+    ten.base[12] = 0;
+    ten.base[13] = 0;
+    ten.base[14] = 0;
+    show_lines(b"H", ten);
+    show_against(b"H", ten, &[-32768, 32767])
 }
 
 fn refused_lines(a: Chart) -> usize

@@ -15,6 +15,7 @@ use lists::run_from_words;
 use store::WriteAnswer;
 use store::write;
 ghost use mathlib.Core.Path.{_≡_};
+ghost use Prim.Native.Nat.{_*_, _≤_};
 ghost use lib.ListN.{length};
 ghost use Rattle.guide.specs.Building.{building};
 ghost use Rattle.guide.specs.Reading.{reading};
@@ -35,147 +36,34 @@ pub fn lists_run(a: Chart) -> usize
 fn lists_of_a() -> usize
     ensures { λ r. ⌜ r ≡ 4 ⌝ }
 {
-    show_built(b"A, no calls", 2, &around(9900, 10100, 10000), &[]);
-    show_built(
+    let a = around(9900, 10100, 10000);
+    show_built(b"A, no calls", 2, &a, &[]);
+    show_calls(
         b"A, eight calls",
         2,
-        &around(9900, 10100, 10000),
-        &[
-            1,
-            2,
-            10250,
-            10000,
-            0,
-            1,
-            2,
-            10301,
-            10000,
-            0,
-            1,
-            2,
-            10000,
-            10000,
-            0,
-            2,
-            2,
-            10250,
-            10000,
-            0,
-            3,
-            0,
-            0,
-            0,
-            0,
-            2,
-            2,
-            10000,
-            10000,
-            0,
-            1,
-            3,
-            1,
-            1,
-            1,
-            4,
-            0,
-            0,
-            0,
-            0,
-        ],
+        &a,
+        &[1, 1, 1, 2, 3, 2, 1, 4],
+        &[2, 2, 2, 2, 0, 2, 3, 0],
+        &[10250, 10301, 10000, 10250, 0, 10000, 1, 0],
+        &[10000, 10000, 10000, 10000, 0, 10000, 1, 0],
     );
-    show_built(
+    show_calls(
         b"A, a run to one side and its correction",
         2,
-        &around(9900, 10100, 10000),
-        &[
-            1,
-            2,
-            10150,
-            10000,
-            0,
-            1,
-            2,
-            10150,
-            10000,
-            0,
-            1,
-            2,
-            10150,
-            10000,
-            0,
-            1,
-            2,
-            10150,
-            10000,
-            0,
-            1,
-            2,
-            10150,
-            10000,
-            0,
-            1,
-            2,
-            10150,
-            10000,
-            0,
-            1,
-            2,
-            10150,
-            10000,
-            0,
-            3,
-            0,
-            0,
-            0,
-            0,
-        ],
+        &a,
+        &[1, 1, 1, 1, 1, 1, 1, 3],
+        &[2, 2, 2, 2, 2, 2, 2, 0],
+        &[10150, 10150, 10150, 10150, 10150, 10150, 10150, 0],
+        &[10000, 10000, 10000, 10000, 10000, 10000, 10000, 0],
     );
-    show_built(
+    show_calls(
         b"A, numbers that are no readings",
         2,
-        &around(9900, 10100, 10000),
-        &[
-            1,
-            258,
-            10000,
-            10000,
-            0,
-            1,
-            2,
-            -1,
-            10000,
-            0,
-            1,
-            2,
-            4294977296,
-            10000,
-            0,
-            1,
-            2,
-            1000000001,
-            0,
-            0,
-            1,
-            2,
-            10000,
-            0,
-            0,
-            1,
-            2,
-            10000,
-            10000,
-            -5,
-            3,
-            9,
-            -1,
-            5,
-            5,
-            4,
-            77,
-            1,
-            2,
-            3,
-        ],
+        &a,
+        &[1, 1, 1, 1, 1, 1, 3, 4],
+        &[258, 2, 2, 2, 2, 2, 9, 77],
+        &[10000, -1, 4294977296, 1000000001, 10000, 10000, -1, 1],
+        &[10000, 10000, 10000, 0, 0, 10000, 5, 2],
     );
     4
 }
@@ -184,145 +72,36 @@ fn lists_of_a() -> usize
 fn lists_of_others() -> usize
     ensures { λ r. ⌜ r ≡ 3 ⌝ }
 {
-    show_built(
+    show_calls(
         b"K, kinds that are none",
         1,
         &around(900, 1100, 1000),
-        &[
-            1,
-            -1,
-            1,
-            1,
-            0,
-            1,
-            65537,
-            1,
-            1,
-            0,
-            1,
-            1,
-            1,
-            2,
-            0,
-            2,
-            1,
-            1,
-            1,
-            0,
-            3,
-            0,
-            0,
-            0,
-            0,
-            2,
-            1,
-            1,
-            1,
-            0,
-            4,
-            0,
-            0,
-            0,
-            0,
-        ],
+        &[1, 1, 1, 2, 3, 2, 4],
+        &[-1, 65537, 1, 1, 0, 1, 0],
+        &[1, 1, 1, 1, 0, 1, 0],
+        &[1, 1, 2, 1, 0, 1, 0],
     );
     let mut words = [0i16; 32];
     fill_front(&mut words, 22, 20000);
-    show_built(
+    show_calls(
         b"wide, a renewal of six rounds",
         1,
         &words,
-        &[
-            1,
-            1,
-            20001,
-            19999,
-            0,
-            1,
-            1,
-            20012,
-            19988,
-            0,
-            1,
-            1,
-            20144,
-            19856,
-            0,
-            1,
-            1,
-            21728,
-            18272,
-            0,
-            1,
-            1,
-            40000,
-            0,
-            0,
-            4,
-            0,
-            0,
-            0,
-            0,
-            4,
-            0,
-            0,
-            0,
-            0,
-            1,
-            1,
-            1,
-            2,
-            0,
-        ],
+        &[1, 1, 1, 1, 1, 4, 4, 1],
+        &[1, 1, 1, 1, 1, 0, 0, 1],
+        &[20001, 20012, 20144, 21728, 40000, 0, 0, 1],
+        &[19999, 19988, 19856, 18272, 0, 0, 0, 2],
     );
-    let mut negative = [0i16; 15];
-    fill_front(&mut negative, 7, -1);
-    show_built(
+    let mut words = [0i16; 15];
+    fill_front(&mut words, 7, -1);
+    show_calls(
         b"N, spikes",
         3,
-        &negative,
-        &[
-            1,
-            3,
-            0,
-            1,
-            20000,
-            1,
-            3,
-            0,
-            2,
-            10000,
-            1,
-            3,
-            0,
-            2,
-            10000,
-            2,
-            3,
-            0,
-            3,
-            10000,
-            3,
-            0,
-            0,
-            0,
-            0,
-            2,
-            3,
-            1,
-            2,
-            10000,
-            1,
-            3,
-            300,
-            0,
-            100,
-            4,
-            0,
-            0,
-            0,
-            0,
-        ],
+        &words,
+        &[1, 1, 1, 2, 3, 2, 1, 4],
+        &[3, 3, 3, 3, 0, 3, 3, 0],
+        &[0, 0, 0, 0, 0, 1, 30000, 0],
+        &[1, 2, 2, 3, 0, 2, 0, 0],
     );
     3
 }
@@ -335,7 +114,7 @@ fn no_lists() -> usize
     show_built(b"A, call number 5", 2, &a, &[5, 0, 0, 0, 0]);
     show_built(b"A, call number 0", 2, &a, &[0, 0, 0, 0, 0]);
     show_built(b"A, call number -1", 2, &a, &[-1, 0, 0, 0, 0]);
-    show_built(b"A, call number 65537", 2, &a, &[65537, 2, 10000, 10000, 0]);
+    show_built(b"A, call number 65537", 2, &a, &[65537, 2, 1, 1, 0]);
     show_built(
         b"A, a later call number 9",
         2,
@@ -347,26 +126,17 @@ fn no_lists() -> usize
     8
 }
 
-// Words that building declines, with lists that are run, that are none, and that have no room.
+// Words that building declines, with a list that can be run, one that is none, and one without room.
 fn no_starts() -> usize
     ensures { λ r. ⌜ r ≡ 5 ⌝ }
 {
     let call = [3i64, 0, 0, 0, 0];
-    show_built(b"fourteen words, one call", 2, &[10000; 14], &call);
+    let few = [10000i16; 14];
+    show_built(b"fourteen words, one call", 2, &few, &call);
     show_built(b"kind 4, one call", 4, &around(9900, 10100, 10000), &call);
-    show_built(
-        b"kind 4 and fourteen words, one call",
-        4,
-        &[10000; 14],
-        &call,
-    );
-    show_built(
-        b"fourteen words, six numbers",
-        2,
-        &[10000; 14],
-        &[3, 0, 0, 0, 0, 3],
-    );
-    show_built(b"fourteen words, nine calls", 2, &[10000; 14], &[3; 45]);
+    show_built(b"kind 4 and fourteen words, one call", 4, &few, &call);
+    show_built(b"fourteen words, six numbers", 2, &few, &[3, 0, 0, 0, 0, 3]);
+    show_built(b"fourteen words, nine calls", 2, &few, &[3; 45]);
     5
 }
 
@@ -376,75 +146,44 @@ fn read_lists(a: Chart) -> usize
 {
     let r = a.post(2, 10301, 10000, 0);
     let due = r.chart;
-    show_stored(
-        b"stored A, two calls",
-        due,
-        1,
-        &[2, 2, 10301, 10000, 0, 3, 0, 0, 0, 0],
-    );
-    show_stored(
-        b"stored A with status 3, one call",
-        due,
-        3,
-        &[3, 0, 0, 0, 0],
-    );
-    show_stored(
-        b"stored N, one call",
-        chart_of_runs(3, -1, 7, 0, 8, 0, 0),
-        0,
-        &[1, 3, 0, 1, 20000],
-    );
-    ten_words_read();
-    show_read(b"no bytes, one call", &[], &[3, 0, 0, 0, 0]);
+    let two_calls = [2i64, 2, 10301, 10000, 0, 3, 0, 0, 0, 0];
+    show_stored(b"stored A, two calls", due, 1, &two_calls);
+    let call = [3i64, 0, 0, 0, 0];
+    show_stored(b"stored A with status 3, one call", due, 3, &call);
+    let n = chart_of_runs(3, -1, 7, 0, 8, 0, 0);
+    show_stored(b"stored N, one call", n, 0, &[1, 3, 0, 1, 20000]);
+    show_read(b"no bytes, one call", &[], &call);
     4
 }
 
-// Seven words of 20000 and three of -20000: their upper control line takes more than 24 binary digits.
-fn ten_words_read() -> usize
-    ensures { λ r. ⌜ r ≡ 1 ⌝ }
+// Runs the list of calls with these numbers, kinds and first two numbers of a reading; the third is 10000.
+fn show_calls(
+    text: &[u8],
+    kind: u16,
+    words: &[i16],
+    numbers: &[i64],
+    kinds: &[i64],
+    firsts: &[i64],
+    seconds: &[i64],
+) -> usize
+    requires { ⌜ length (now numbers) ≤ 8 ⌝ }
+    requires { ⌜ length (now kinds) ≡ length (now numbers) ⌝ }
+    requires { ⌜ length (now firsts) ≡ length (now numbers) ⌝ }
+    requires { ⌜ length (now seconds) ≡ length (now numbers) ⌝ }
+    ensures { λ r. ⌜ r ≡ 5 * length (now (numbers .entry)) ⌝ }
 {
-    let bytes = [
-        8u8,
-        0,
-        1,
-        0,
-        2,
-        0,
-        0,
-        0,
-        0,
-        0,
-        22,
-        0,
-        2,
-        0,
-        32,
-        78,
-        32,
-        78,
-        32,
-        78,
-        32,
-        78,
-        32,
-        78,
-        32,
-        78,
-        32,
-        78,
-        224,
-        177,
-        224,
-        177,
-        224,
-        177,
-        2,
-        0,
-        3,
-        0,
-    ];
-    show_read(b"ten words read, no calls", &bytes, &[]);
-    1
+    let mut calls = [10000i64; 40];
+    let mut i: usize = 0;
+    while i < numbers.len() {
+        calls[5 * i] = numbers[i];
+        calls[5 * i + 1] = kinds[i];
+        calls[5 * i + 2] = firsts[i];
+        calls[5 * i + 3] = seconds[i];
+        i += 1;
+    }
+    let size = 5 * i;
+    show_built(text, kind, words, &calls[..size]);
+    size
 }
 
 // Stores the chart, puts the status into its form, and runs the list from its bytes.
@@ -482,14 +221,16 @@ fn show_run(text: &[u8], r: Run, answers: &[i64]) -> Run
 {
     io::write_all(STDOUT_FILENO, text);
     io::write_all(STDOUT_FILENO, b": ");
-    show_run_answer(r.answer);
+    let answer = r.answer;
+    show_run_answer(answer);
     io::write_all(STDOUT_FILENO, b"; answers");
     show_answers(answers);
     io::write_all(STDOUT_FILENO, b"; chart ");
     let chart = r.chart;
     show_counts(chart);
     io::write_all(STDOUT_FILENO, b"; ");
-    show_drawing(r.lines);
+    let lines = r.lines;
+    show_drawing(lines);
     io::write_all(STDOUT_FILENO, b"\n");
     r
 }

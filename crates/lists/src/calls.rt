@@ -52,9 +52,9 @@ pub fn call_at(chart: Chart, calls: &[i64], at: usize, answers: &mut [i64], plac
     let b = calls[at + 3];
     let c = calls[at + 4];
     let r = call(chart, number, kind, a, b, c);
-    let after = r.chart;
+    let next = r.chart;
     put_answer(answers, place, r.said);
-    after
+    next
 }
 
 // A kind, or 0, which is no chart's kind, for a number that is none of 16 bits.
