@@ -1,9 +1,9 @@
 -- Laws of doubles that denote a fraction of whole numbers: a whole number as a double (`whole-is`), divided by 256 (`quotient-is`), and
--- compared with a whole number (`above-is`, `below-is`). A double is known by the k that it denotes (`denotes-unique`, `denotes-bits`), which
--- is read off it (`parts-is`).
+-- compared with a whole number (`above-is`, `below-is`). A double is known by the k that it denotes (`denotes-unique`, `denotes-bits`),
+-- which is read off it (`parts-is`).
 use mathlib.Core.Path.{_≡_, refl, sym, ap, _∙_, subst}
-use mathlib.Core.Bool.{Bool, true, false, cond}
-use Prim.Native.Nat.{ℕ, zero, suc, _+_, _-_, _*_, _/_, _^_, _≤_, _<_, zero-le}
+use mathlib.Core.Bool.{Bool, true, false}
+use Prim.Native.Nat.{ℕ, zero, suc, _+_, _*_, _/_, _^_, _≤_, _<_, zero-le}
 use native.Mathlib.Nat.{lt-of-lt-of-le, zero-lt-suc, zero-add, zero-mul, one-mul, add-mul, mul-pos, mul-comm, mul-assoc, mul-left-comm}
 use native.Mathlib.Nat.{mul-right-comm, mul-div-cancel, eq-of-mul-eq-mul-right, le-of-lt, mul-le-mul-right, mul-lt-mul-of-pos-right}
 use native.Mathlib.Omega.{arith}
@@ -11,7 +11,7 @@ use lib.Dec.{T, ltb, leb·suc-suc, lit<, lit≤}
 use lib.IntN.{ℤ, pos, negsuc, negℤ, natAbs, _*ℤ_}
 use lib.Signed.{ltZ}
 use lib.Pow.{shl-lt}
-use lib.Ieee.{Float, nan, inf, fin, binary64, up, down, unlike, round, div, lt, below, ofInt, odd, fits, ofBits, toBits, size}
+use lib.Ieee.{Float, nan, inf, fin, binary64, up, down, unlike, round, div, lt, below, ofInt, odd, fits, ofBits, toBits}
 use lib.Ieee.Exact.{HasValue, round-exact, odd-sign}
 use lib.Ieee.Fits.{down-pos, odd-fits, div-fits}
 use lib.Ieee.Bits.{ofBits-toBits}
@@ -20,7 +20,7 @@ use lib.Ieee.Back.{round-whole}
 use lib.Ieee.Scale.{round-same}
 use borrow.Author.Tests.{lt-ltb, le-ltb}
 use Rattle.guide.specs.Sizes.{lineParts}
-use Rattle.guide.specs.Double.{IsRatio, Denotes, doubleOf, partsIn}
+use Rattle.guide.specs.Double.{IsRatio, Denotes, doubleOf, bitsAt, bitsOf, partsIn}
 use Rattle.guide.proofs.Integers.{by-order}
 
 -- ---- a whole number as a double
@@ -131,16 +131,6 @@ module _ (x : Float) (k w : ℤ) (h : natAbs w ≤ 2 ^ 53) (v : Denotes x k) whe
 
 -- ---- a double is known by what it denotes
 
--- The bits of the double with the sign s that is n times the smallest one, 2 ^ −1074: the sign, the exponent's field, which counts the binary
--- digits of n past 53, and the 53 leading digits of n, the first of which adds one to that field
-abbrev pub bitsAt : Bool → ℕ → ℕ
-bitsAt s n = cond s (2 ^ 63) 0 + (size n - 53) * 2 ^ 52 + n / 2 ^ (size n - 53)
-
--- the bits of the double that denotes k / 256
-abbrev pub bitsOf : ℤ → ℕ
-bitsOf (pos n) = bitsAt false (n * 2 ^ 1066)
-bitsOf (negsuc n) = bitsAt true (suc n * 2 ^ 1066)
-
 value-bits : (x : Float) (s : Bool) (a c : ℕ) → 0 < c → HasValue x s a c → toBits binary64 x ≡ bitsAt s (a * 2 ^ 1074 / c)
 unfolding toBits
 value-bits nan s a c some v = absurd v
@@ -155,6 +145,7 @@ in-units : (a : ℕ) → a * 2 ^ 1074 / lineParts ≡ a * 2 ^ 1066
 in-units a = ap (λ (y : ℕ). y / lineParts) (sym (mul-assoc a (2 ^ 1066) lineParts)) ∙ mul-div-cancel (a * 2 ^ 1066) (lit< tt)
 
 pub denotes-bits : (x : Float) (k : ℤ) → Denotes x k → toBits binary64 x ≡ bitsOf k
+unfolding bitsOf
 denotes-bits x (pos n) v = value-bits x false n lineParts (lit< tt) v ∙ ap (bitsAt false) (in-units n)
 denotes-bits x (negsuc n) v = value-bits x true (suc n) lineParts (lit< tt) v ∙ ap (bitsAt true) (in-units (suc n))
 
@@ -198,10 +189,11 @@ unfolding doubleOf
 double-fits (pos n) h = odd-format false n h
 double-fits (negsuc n) h = odd-format true (suc n) h
 
--- the quotient that the machine works out is it
+-- the division of doubles gives it
 pub quotient-is : (k : ℤ) → natAbs k < 2 ^ 53 → div binary64 (ofInt binary64 k) (fin false 1 (pos 8)) ≡ doubleOf k
 quotient-is k h =
-    denotes-unique _ (doubleOf k) k (div-fits binary64 _ _) (double-fits k h) (quotient-denotes (ofInt binary64 k) k h (whole-is k (le-of-lt h))) (double-denotes k)
+    denotes-unique _ (doubleOf k) k (div-fits binary64 _ _) (double-fits k h)
+    (quotient-denotes (ofInt binary64 k) k h (whole-is k (le-of-lt h))) (double-denotes k)
 
 -- ---- k is read off it
 

@@ -1,38 +1,40 @@
--- Laws of lines, for any multiple m of S and the sums of two words or more. A whole number of 256ths is above the exact limit exactly if it
--- is above the upper line (`above-upper`), and below the exact limit exactly if it is below the lower line (`below-lower`). So the line is the
--- greatest not above, or the least not below, less than 1 away, and it judges a word as the limit does (`draws-upper`, `draws-lower`,
--- `draws-mean`, `draws-lines`, `judged-by-lines`).
+-- Laws of lines, for any multiple m of S and the sums of two words or more. A whole number of 256ths is above the exact limit exactly if
+-- it is above the upper line (`above-upper`), and below the exact limit exactly if it is below the lower line (`below-lower`). So the line
+-- is the greatest not above, or the least not below, less than 1 away, and it judges a word as the limit does (`draws-upper`,
+-- `draws-lower`, `draws-mean`, `draws-lines`, `judged-by-lines`).
 use mathlib.Core.Path.{_≡_, refl, sym, ap, _∙_}
 use mathlib.Core.Bool.{Bool, true, false, _&&_, false≢true}
 use mathlib.Core.List.{List, [], _∷_}
-use Prim.Native.Nat.{ℕ, zero, suc, _+_, _*_, _-_, _/_, _<_, _≤_}
+use Prim.Native.Nat.{ℕ, zero, suc, _+_, _*_, _-_, _/_, _≤_}
 use native.Mathlib.Omega.{arith}
 use native.Mathlib.Nat.{mul-le-mul, mul-le-mul-right, div-mul-le-self, lt-mul-div-succ}
 use lib.ListN.{length}
-use lib.Dec.{ltb, leb}
+use lib.Dec.{ltb}
 use lib.IntN.{ℤ, pos, negsuc, natAbs, negℤ, _+ℤ_, _-ℤ_, _*ℤ_}
 use lib.Signed.{ltZ, leZ}
-use lib.Ieee.{Float}
+use lib.Ieee.{Float, binary64, toBits}
 use borrow.Author.Tests.{lt-ltb, le-ltb, ltb-false, le-leb, leb-true}
 use Rattle.guide.specs.Sizes.{lineParts}
 use Rattle.guide.specs.Limits.{Sums, vOf, scaledDeviation, exceeds, squareOf, aboveMean, belowMean, above, below}
-use Rattle.guide.specs.Limits.{Limits, controlMultiple, warningMultiple, beyondUpper, beyondLower, sumOf, sumOfSquares, sumBy}
+use Rattle.guide.specs.Limits.{Limits, controlMultiple, warningMultiple, beyondUpper, beyondLower, sumOfSquares, sumBy}
 use Rattle.guide.specs.Kind.{hasLower, inRange, wordMost}
 use Rattle.guide.specs.AllOf.{allOf}
 use Rattle.guide.specs.Building.{allInRange}
 use Rattle.guide.specs.SquareRoot.{squareRoot}
-use Rattle.guide.specs.Double.{Denotes, doubleOf, partsIn}
+use Rattle.guide.specs.Double.{Denotes, doubleOf, bitsOf, partsIn}
 use Rattle.guide.specs.Drawing.{Lines, duplicate, twoSided, linesOf, beyondEach, aboveLine, belowLine, beyondLines}
 use Rattle.guide.specs.Drawing.{DrawsUpper, DrawsLower, DrawsMean, Draws}
 use Rattle.guide.specs.Lines.{partsDeviation, partsAboveMean, partsAbove, partsBelow, IsGreatestNot, IsLeastNot}
-use Rattle.guide.specs.Lines.{IsUpperLine, IsLowerLine, IsMeanLine, quotientDown, quotientUp, greatestDeviation, upperLine, lowerLine, meanLine}
-use Rattle.guide.proofs.Integers.{by-order, same-test, Diff, of-pos, of-neg, of-any, plus, minus, times, negated, equal, is-less, less-yes, less-no, same-order}
-use Rattle.guide.proofs.Integers.{same-difference, plusPart, minusPart, magnitude-times}
+use Rattle.guide.specs.Lines.{IsUpperLine, IsLowerLine, IsMeanLine, quotientDown, quotientUp, greatestDeviation}
+use Rattle.guide.specs.Lines.{upperLine, lowerLine, meanLine}
+use Rattle.guide.proofs.Integers.{same-test, of-pos, of-neg, of-any, plus, minus, times, negated, equal}
+use Rattle.guide.proofs.Integers.{is-less, less-yes, less-no, same-order}
+use Rattle.guide.proofs.Integers.{magnitude-times}
 use Rattle.guide.proofs.Limits.{exceeds-natural, squares-are}
 use Rattle.guide.proofs.SquareRoot.{root-is}
 use Rattle.guide.proofs.Booleans.{both}
 use Rattle.guide.proofs.Choice.{choose-ind}
-use Rattle.guide.proofs.Double.{double-denotes, parts-of-double, double-of-parts}
+use Rattle.guide.proofs.Double.{double-denotes, denotes-bits, parts-of-double, double-of-parts}
 use Rattle.guide.proofs.Kind.{in-range-few}
 
 -- ---- a number that exactly the greater ones, or exactly the less ones, pass a test by
@@ -173,13 +175,14 @@ module _ (s : Sums) (two : 2 ≤ s .n) (natural : vOf s ≡ pos (natAbs (vOf s))
       ∙ same-order (minus count sum) (negated (of-pos {n = r})) count (minus sum (of-pos {n = r})) (λ h. omega arith) (λ h. omega arith)
       ∙ sym (below-quotient (s .n) (omega arith) (pos lineParts *ℤ s .t -ℤ pos r) k)
 
-  pub above-mean : (k : ℤ) → partsAboveMean s k ≡ ltZ (meanLine s) k
-  unfolding partsAboveMean partsDeviation meanLine
-  above-mean k =
-      let sum = times lineParts (of-any (s .t)) in
-      let count = times (s .n) (of-any k) in
-      same-order (of-pos {n = 0}) (minus count sum) sum count (λ h. omega arith) (λ h. omega arith)
-      ∙ sym (above-quotient (s .n) (omega arith) (pos lineParts *ℤ s .t) k)
+-- the mean line takes one word or more
+pub above-mean : (s : Sums) → 1 ≤ s .n → (k : ℤ) → partsAboveMean s k ≡ ltZ (meanLine s) k
+unfolding partsAboveMean partsDeviation meanLine
+above-mean s some k =
+    let sum = times lineParts (of-any (s .t)) in
+    let count = times (s .n) (of-any k) in
+    same-order (of-pos {n = 0}) (minus count sum) sum count (λ h. omega arith) (λ h. omega arith)
+    ∙ sym (above-quotient (s .n) some (pos lineParts *ℤ s .t) k)
 
 -- ---- a word in 256ths: 256·w deviates 256 times as much
 
@@ -195,8 +198,8 @@ module _ (s : Sums) (natural : vOf s ≡ pos (natAbs (vOf s))) where
   unfolding partsDeviation scaledDeviation
   word-deviation w =
       let sum = of-any (s .t) in
-      equal (minus (times (s .n) (times lineParts (of-any w))) (times lineParts sum)) (times lineParts (minus (times (s .n) (of-any w)) sum))
-      (omega arith)
+      equal (minus (times (s .n) (times lineParts (of-any w))) (times lineParts sum))
+      (times lineParts (minus (times (s .n) (of-any w)) sum)) (omega arith)
 
   word-exceeds : (m : ℕ) (w : ℤ) → exceeds (lineParts * m) s (partsDeviation s (pos lineParts *ℤ w)) ≡ exceeds m s (scaledDeviation s w)
   word-exceeds m w =
@@ -254,9 +257,11 @@ module _ (s : Sums) (two : 2 ≤ s .n) (natural : vOf s ≡ pos (natAbs (vOf s))
       record {
         denotes = by-parts Denotes k (double-denotes k);
         double = double-of-parts k;
+        bits = by-parts (λ x j. toBits binary64 x ≡ bitsOf j) k (denotes-bits (doubleOf k) k (double-denotes k));
         line = by-parts (λ _ j. IsUpperLine m s j) k (greatest-not is);
         close = by-parts (λ _ j. partsAbove m s (j +ℤ pos 1) ≡ true) k (close-above k is);
-        judges = λ w. ap (λ (j : ℤ). ltZ j (pos lineParts *ℤ w)) (parts-of-double k) ∙ sym (is (pos lineParts *ℤ w)) ∙ word-above s natural m w;
+        judges = λ w.
+            ap (λ (j : ℤ). ltZ j (pos lineParts *ℤ w)) (parts-of-double k) ∙ sym (is (pos lineParts *ℤ w)) ∙ word-above s natural m w;
       }
 
   pub draws-lower : (m : ℕ) → DrawsLower m s (doubleOf (lowerLine m s))
@@ -267,21 +272,23 @@ module _ (s : Sums) (two : 2 ≤ s .n) (natural : vOf s ≡ pos (natAbs (vOf s))
       record {
         denotes = by-parts Denotes k (double-denotes k);
         double = double-of-parts k;
+        bits = by-parts (λ x j. toBits binary64 x ≡ bitsOf j) k (denotes-bits (doubleOf k) k (double-denotes k));
         line = by-parts (λ _ j. IsLowerLine m s j) k (least-not is);
         close = by-parts (λ _ j. partsBelow m s (j -ℤ pos 1) ≡ true) k (close-below k is);
         judges = λ w. ap (ltZ (pos lineParts *ℤ w)) (parts-of-double k) ∙ sym (is (pos lineParts *ℤ w)) ∙ word-below s natural m w;
       }
 
-  pub draws-mean : DrawsMean s (doubleOf (meanLine s))
-  draws-mean =
-      let k = meanLine s in
-      let is = above-mean s two natural in
-      record {
-        denotes = by-parts Denotes k (double-denotes k);
-        double = double-of-parts k;
-        line = by-parts (λ _ j. IsMeanLine s j) k (greatest-not is);
-        close = by-parts (λ _ j. partsAboveMean s (j +ℤ pos 1) ≡ true) k (close-above k is);
-      }
+pub draws-mean : (s : Sums) → 1 ≤ s .n → DrawsMean s (doubleOf (meanLine s))
+draws-mean s some =
+    let k = meanLine s in
+    let is = above-mean s some in
+    record {
+      denotes = by-parts Denotes k (double-denotes k);
+      double = double-of-parts k;
+      bits = by-parts (λ x j. toBits binary64 x ≡ bitsOf j) k (denotes-bits (doubleOf k) k (double-denotes k));
+      line = by-parts (λ _ j. IsMeanLine s j) k (greatest-not is);
+      close = by-parts (λ _ j. partsAboveMean s (j +ℤ pos 1) ≡ true) k (close-above k is);
+    }
 
 -- ---- all lines of a chart
 
@@ -293,7 +300,7 @@ module _ (limits : Limits) (two : 2 ≤ limits .sums .n) (natural : vOf (limits 
       choose-ind (Draws limits) (hasLower (limits .kind)) _ _
       (λ t. record {
         kind = t;
-        of-mean = draws-mean s two natural;
+        of-mean = draws-mean s (omega arith);
         of-lower-warning = draws-lower s two natural warningMultiple;
         of-upper-warning = draws-upper s two natural warningMultiple;
         of-lower-control = draws-lower s two natural controlMultiple;
@@ -301,7 +308,7 @@ module _ (limits : Limits) (two : 2 ≤ limits .sums .n) (natural : vOf (limits 
       })
       (λ t. record {
         kind = t;
-        of-mean = draws-mean s two natural;
+        of-mean = draws-mean s (omega arith);
         of-upper-warning = draws-upper s two natural warningMultiple;
         of-upper-control = draws-upper s two natural controlMultiple;
       })

@@ -1,6 +1,5 @@
 -- The whole part of a square root is the greatest whole number whose square is at most q (`root-is`), and there is no other (`root-only`).
 use mathlib.Core.Path.{_≡_}
-use mathlib.Core.Bool.{true, false}
 use Prim.Native.Nat.{ℕ, zero, suc, _+_, _*_, _/_, _^_, _<_, _≤_}
 use native.Mathlib.Omega.{arith}
 use native.Mathlib.Nat.{mul-le-mul}

@@ -1,10 +1,10 @@
 -- Document 01, "Lines for the plotter": "Lines are binary64", and "the whole number k of 256ths that the double's bits denote (k = 0 is
 -- +0.0)". But for NaN, a value of `Float` that fits binary64 and the bits of a double are one for one. `HasValue x negative a c`, of
 -- `lib.Ieee.Exact`: x is finite, negative by its sign or not, and of the size a / c.
-use mathlib.Core.Bool.{Bool, true, false}
-use Prim.Native.Nat.{ℕ, suc, _*_, _/_}
+use mathlib.Core.Bool.{Bool, true, false, cond}
+use Prim.Native.Nat.{ℕ, suc, _+_, _-_, _*_, _/_, _^_}
 use lib.IntN.{ℤ, pos, negsuc, negℤ}
-use lib.Ieee.{Float, nan, inf, fin, up, down, odd}
+use lib.Ieee.{Float, nan, inf, fin, up, down, odd, size}
 use lib.Ieee.Exact.{HasValue}
 use Rattle.guide.specs.Sizes.{lineParts}
 use Rattle.guide.specs.Choice.{choose}
@@ -23,6 +23,16 @@ Denotes x k = IsRatio x k lineParts
 unfoldable pub doubleOf : ℤ → Float
 doubleOf (pos n) = odd 53 false n 1066 1074
 doubleOf (negsuc n) = odd 53 true (suc n) 1066 1074
+
+-- the bits of the double with the sign s that is n times the smallest one, 2 ^ −1074: the sign, the exponent's field, which counts the
+-- binary digits of n past 53, and the 53 leading digits of n, the first of which adds one to that field
+abbrev pub bitsAt : Bool → ℕ → ℕ
+bitsAt s n = cond s (2 ^ 63) 0 + (size n - 53) * 2 ^ 52 + n / 2 ^ (size n - 53)
+
+-- the bits of the double that denotes k / 256
+unfoldable pub bitsOf : ℤ → ℕ
+bitsOf (pos n) = bitsAt false (n * 2 ^ 1066)
+bitsOf (negsuc n) = bitsAt true (suc n * 2 ^ 1066)
 
 -- k, where x denotes k / 256: 256 · x, rounded toward 0. A finite x is m · 2 ^ e in size, and 2 ^ e is `up e / down e`
 unfoldable pub partsIn : Float → ℤ

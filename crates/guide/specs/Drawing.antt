@@ -4,12 +4,12 @@ use mathlib.Core.Bool.{Bool, true, false}
 use Prim.Native.Nat.{ℕ}
 use lib.IntN.{ℤ, pos, _+ℤ_, _-ℤ_, _*ℤ_}
 use lib.Signed.{ltZ}
-use lib.Ieee.{Float}
+use lib.Ieee.{Float, binary64, toBits}
 use Rattle.guide.specs.Choice.{choose}
 use Rattle.guide.specs.Sizes.{lineParts}
 use Rattle.guide.specs.Kind.{hasLower}
 use Rattle.guide.specs.Limits.{Sums, Limits, above, below, controlMultiple, warningMultiple, beyondUpper, beyondLower}
-use Rattle.guide.specs.Double.{Denotes, doubleOf, partsIn}
+use Rattle.guide.specs.Double.{Denotes, doubleOf, bitsOf, partsIn}
 use Rattle.guide.specs.Lines.{partsAbove, partsBelow, partsAboveMean, IsUpperLine, IsLowerLine, IsMeanLine}
 use Rattle.guide.specs.Lines.{upperLine, lowerLine, meanLine}
 
@@ -81,12 +81,13 @@ beyondLines (twoSided mean lowerWarning upperWarning lowerControl upperControl) 
 
 -- ---- what demand 3 says of drawn lines
 
--- the double x of a limit denotes k / 256, by its bits; k is the paper's, and less than 1 away from 256 times the exact limit; and any
--- word w lies beyond the double exactly if it lies beyond the exact limit
+-- the double x of a limit denotes k / 256, and its bits are k's; k is the paper's, and less than 1 away from 256 times the exact limit;
+-- and any word w lies beyond the double exactly if it lies beyond the exact limit
 
 pub record DrawsUpper (m : ℕ) (s : Sums) (x : Float) : Type 0 where
   pub denotes : Denotes x (partsIn x)
   pub double : x ≡ doubleOf (partsIn x)
+  pub bits : toBits binary64 x ≡ bitsOf (partsIn x)
   pub line : IsUpperLine m s (partsIn x)
   pub close : partsAbove m s (partsIn x +ℤ pos 1) ≡ true
   pub judges : (w : ℤ) → aboveLine x w ≡ above m s w
@@ -94,6 +95,7 @@ pub record DrawsUpper (m : ℕ) (s : Sums) (x : Float) : Type 0 where
 pub record DrawsLower (m : ℕ) (s : Sums) (x : Float) : Type 0 where
   pub denotes : Denotes x (partsIn x)
   pub double : x ≡ doubleOf (partsIn x)
+  pub bits : toBits binary64 x ≡ bitsOf (partsIn x)
   pub line : IsLowerLine m s (partsIn x)
   pub close : partsBelow m s (partsIn x -ℤ pos 1) ≡ true
   pub judges : (w : ℤ) → belowLine x w ≡ below m s w
@@ -102,6 +104,7 @@ pub record DrawsLower (m : ℕ) (s : Sums) (x : Float) : Type 0 where
 pub record DrawsMean (s : Sums) (x : Float) : Type 0 where
   pub denotes : Denotes x (partsIn x)
   pub double : x ≡ doubleOf (partsIn x)
+  pub bits : toBits binary64 x ≡ bitsOf (partsIn x)
   pub line : IsMeanLine s (partsIn x)
   pub close : partsAboveMean s (partsIn x +ℤ pos 1) ≡ true
 

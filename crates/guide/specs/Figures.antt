@@ -67,8 +67,8 @@ abbrev pub limitsA : Limits
 limitsA = limitsOf 2 baseA
 
 -- "Base C: 10000 seven times, 10001 eight times." Its five lines are those of a kind with lower limits, as kind 2
-abbrev pub limitsC : Limits
-limitsC = limitsOf 2 (replicate 7 (pos 10000) ++ replicate 8 (pos 10001))
+abbrev pub baseC : List ℤ
+baseC = replicate 7 (pos 10000) ++ replicate 8 (pos 10001)
 
 -- "Kind 1, 1000 fourteen times and 2000"
 abbrev pub fourteenAndOne : List ℤ
@@ -138,9 +138,10 @@ table =
     -- "A, posts 10010, 10020, .., 10070: the seventh is 3, though 4 applies too."
     ∷ record { defined = verdictsOnA (map checkPost (sevenInTens 10010)); figure = replicate 6 (pos 0) ++ (pos 3 ∷ []) }
     ∷ record { defined = truth (sideTest limitsA (map pos (sevenInTens 10010))) ∷ []; figure = pos 1 ∷ [] }
-    -- "C: lines times 256 are 2559740, 2559873, 2560136, 2560400, 2560533."
+    -- "C: lines times 256 are 2559740, 2559873, 2560136, 2560400, 2560533." All of its words stand
+    ∷ record { defined = buildNumbers (build.building 2 baseC); figure = pos 1 ∷ pos 0 ∷ baseC }
     ∷ record {
-      defined = linesNumbers (linesOf limitsC);
+      defined = linesNumbers (linesOf (limitsOf 2 baseC));
       figure = pos 2559740 ∷ pos 2559873 ∷ pos 2560136 ∷ pos 2560400 ∷ pos 2560533 ∷ [];
     }
     ∷ []

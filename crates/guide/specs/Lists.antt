@@ -1,6 +1,8 @@
--- Document 01, "Lists": where the machine starts. From here `Machine.after` gives the state after a list of calls, and `Machine.answers` what
--- they answer.
+-- Document 01, "Lists": where the machine starts. From here `Machine.after` gives the state after a list of calls, and `Machine.answers`
+-- what they answer.
+use mathlib.Core.List.{List}
 use Prim.Native.Nat.{ℕ}
+use lib.IntN.{ℤ}
 use Rattle.guide.specs.State.{State}
 use Rattle.guide.specs.Building as build
 use Rattle.guide.specs.Reading as read
@@ -20,3 +22,10 @@ startOfBuilding (build.refused n) = declined n
 unfoldable pub startOfReading : read.ReadingAnswer → Start
 startOfReading (read.taken s) = begun s
 startOfReading (read.refused n) = declined n
+
+-- the start from words of a kind, and from bytes
+abbrev pub wordsStart : ℕ → List ℤ → Start
+wordsStart kind words = startOfBuilding (build.building kind words)
+
+abbrev pub bytesStart : List ℕ → Start
+bytesStart bytes = startOfReading (read.reading bytes)

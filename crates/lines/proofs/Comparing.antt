@@ -53,13 +53,15 @@ heldWord w = toZ w16 (ofZ w16 w)
 module _ (lines : Lines) (w : ℤ) (fit : SFits w16 w) where
   pub against-duplicate : (mean upperWarning upperControl : Float) (a b : Bool) → lines ≡ Duplicate mean upperWarning upperControl
       → a ≡ floatAbove upperWarning (heldWord w) → b ≡ floatAbove upperControl (heldWord w)
-      → beyondSays (record { «lower_warning» = false; «upper_warning» = a; «lower_control» = false; «upper_control» = b }) ≡ floatBeyond (linesSay lines) w
+      → beyondSays (record { «lower_warning» = false; «upper_warning» = a; «lower_control» = false; «upper_control» = b })
+      ≡ floatBeyond (linesSay lines) w
   unfolding beyondSays floatBeyond linesSay
   against-duplicate mean upperWarning upperControl a b e f g = rw (e, f, g, toZ-ofZ fit)
 
   pub against-two-sided : (l : TwoSidedLines) (a b c d : Bool) → lines ≡ TwoSided l
       → a ≡ floatBelow (l .«lower_warning») (heldWord w) → b ≡ floatAbove (l .«upper_warning») (heldWord w)
       → c ≡ floatBelow (l .«lower_control») (heldWord w) → d ≡ floatAbove (l .«upper_control») (heldWord w)
-      → beyondSays (record { «lower_warning» = a; «upper_warning» = b; «lower_control» = c; «upper_control» = d }) ≡ floatBeyond (linesSay lines) w
+      → beyondSays (record { «lower_warning» = a; «upper_warning» = b; «lower_control» = c; «upper_control» = d })
+      ≡ floatBeyond (linesSay lines) w
   unfolding beyondSays floatBeyond linesSay
   against-two-sided l a b c d e f g h k = rw (e, f, g, h, k, toZ-ofZ fit)

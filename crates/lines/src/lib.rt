@@ -1,6 +1,6 @@
-// Lines for the plotter: document 01, "Lines for the plotter". The limits of a chart and its mean as doubles, each a whole number k of 256ths:
-// an upper limit rounded down, a lower limit rounded up, the mean rounded down. k is worked out in whole numbers (`parts`) and then divided by
-// 256, which a double does exactly.
+// Lines for the plotter: document 01, "Lines for the plotter". The limits of a chart and its mean as doubles, each a whole number k of
+// 256ths: an upper limit rounded down, a lower limit rounded up, the mean rounded down. k is worked out in whole numbers (`parts`) and
+// then divided by 256, which a double does exactly.
 //
 // `lines_of` and `against_lines` decline a chart that is not sound, with 14.
 mod parts;

@@ -1,32 +1,43 @@
--- Demand 3 over any chain of calls of the methods. Each call holds what its method's contract says of the result, in the form in which it is
--- read off the source (`Reads.Post`), and takes the chart that the call before it gave back. From a chart that building gave
--- (`claim-from-words`) or reading (`claim-from-bytes`), with lines asked of the last chart, the claim holds of the whole list.
-use mathlib.Core.Path.{_≡_, refl, sym, ap, _∙_}
+-- Demand 3 over any chain of calls of the methods. Building or reading, each call, and lines hold what their contracts say of the result,
+-- in the form in which these are read off the source (`Reads.Post`). A call takes the chart that the call before it gave back. From a
+-- chart that building gave (`claim-from-words`) or reading (`claim-from-bytes`), with lines asked of the last chart, the claim holds of
+-- the whole list.
+use mathlib.Core.Path.{_≡_, refl, ap, _∙_}
+use mathlib.Core.Bool.{true}
 use mathlib.Core.List.{List, [], _∷_}
 use Prim.Native.Nat.{ℕ}
+use native.Mathlib.Omega.{arith}
 use lib.IntN.{ℤ}
+use contract.Lifetimes.{Lfts}
+use denote.Ref.{RefT, now}
 use Rattle.guide.specs.State.{State}
-use Rattle.guide.specs.Building.{building, built}
-use Rattle.guide.specs.Reading.{reading, taken}
+use Rattle.guide.specs.Soundness.{sound}
+use Rattle.guide.specs.Building.{BuildingAnswer, building}
+use Rattle.guide.specs.Building as build
+use Rattle.guide.specs.Reading.{ReadingAnswer, reading}
+use Rattle.guide.specs.Reading as read
+use Rattle.guide.specs.Lists.{begun, startOfBuilding, startOfReading, wordsStart, bytesStart}
 use Rattle.guide.specs.Machine.{Call, post, reanalysis, correction, renewal, Answer}
-use Rattle.guide.specs.Drawing.{DrawingAnswer}
-use Rattle.guide.proofs.Soundness.{built-sound}
-use Rattle.guide.proofs.Reading.{read-sound}
+use Rattle.guide.proofs.Lists.{start-of-building-sound, start-of-reading-sound}
 use Rattle.chart.specs.declared.Chart.{Chart}
 use Rattle.chart.specs.declared.Built.{Built}
 use Rattle.chart.specs.declared.Posted.{Posted}
 use Rattle.chart.specs.declared.Reanalysed.{Reanalysed}
 use Rattle.chart.specs.declared.Corrected.{Corrected}
 use Rattle.chart.specs.declared.Renewed.{Renewed}
-use Rattle.chart.specs.Chart.{chartOf, chartAfter, Builds}
-use Rattle.chart.specs.Calls.{Gives, nextChart, answerTo, postSays, reanalysisSays, correctionSays, renewalSays, chartAfterCalls, answersTo}
+use Rattle.chart.specs.Chart.{chartOf, chartAfter}
+use Rattle.chart.specs.Calls.{Gives, postSays, reanalysisSays, correctionSays, renewalSays, chartAfterCalls, answersTo}
+use Rattle.chart.proofs.Chart.build.Reads as build-reads
 use Rattle.chart.proofs.Chart.post.Reads as post-reads
 use Rattle.chart.proofs.Chart.reanalyse.Reads as reanalyse-reads
 use Rattle.chart.proofs.Chart.correct.Reads as correct-reads
 use Rattle.chart.proofs.Chart.renew.Reads as renew-reads
 use Rattle.store.specs.declared.ReadChart.{ReadChart}
-use Rattle.store.specs.Store.{chartAfterReading, IsRead}
-use Rattle.lines.specs.Lines.{answerToLines}
+use Rattle.store.specs.Store.{chartAfterReading}
+use Rattle.store.proofs.read.Reads as read-reads
+use Rattle.lines.specs.declared.LinesAnswer.{LinesAnswer}
+use Rattle.lines.specs.Lines.{drawingSays}
+use Rattle.lines.proofs.lines_of.Reads as lines-reads
 use Rattle.lists.specs.Claim.{Claim}
 use Rattle.lists.proofs.Claims.{claim-of-run}
 
@@ -49,6 +60,17 @@ pub data Chain : Chart → List Call → List Answer → Chart → Type 0 where
   first : {c next last : Chart} {call : Call} {answer : Answer} {calls : List Call} {answers : List Answer}
       → Called c call next answer → Chain next calls answers last → Chain c (call ∷ calls) (answer ∷ answers) last
 
+-- the chart that goes with an accepted start
+chart-of-building : (a : BuildingAnswer) (s : State) → startOfBuilding a ≡ begun s → chartAfter a ≡ chartOf s
+unfolding startOfBuilding chartAfter
+chart-of-building (build.built t rounds removed) s e = let same : t ≡ s = cc in ap chartOf same
+chart-of-building (build.refused n) s e = let z : _≡_ {A = ℕ} 0 1 = cc in absurd (omega arith)
+
+chart-of-reading : (a : ReadingAnswer) (s : State) → startOfReading a ≡ begun s → chartAfterReading a ≡ chartOf s
+unfolding startOfReading chartAfterReading
+chart-of-reading (read.taken t) s e = let same : t ≡ s = cc in ap chartOf same
+chart-of-reading (read.refused n) s e = let z : _≡_ {A = ℕ} 0 1 = cc in absurd (omega arith)
+
 gives : {c next : Chart} {call : Call} {answer : Answer} → Called c call next answer → Gives c call next answer
 gives (posted r p) = p
 gives (reanalysed r p) = p
@@ -69,22 +91,33 @@ chain-answers (first {calls = calls} p rest) =
 
 -- ---- the claim
 
-module _ (s : State) (start last : Chart) (calls : List Call) (said : List Answer) (drawing : DrawingAnswer)
-    (chain : Chain start calls said last) (asked : drawing ≡ answerToLines last) where
-  pub claim-from-words : (kind : ℕ) (words : List ℤ) (b : Built) (rounds removed : ℕ) → Builds kind words b
-      → building kind words ≡ built s rounds removed → start ≡ b .chart → Claim s calls last said drawing
-  unfolding chartAfter
-  claim-from-words kind words b rounds removed builds e first-chart =
-      let is : start ≡ chartOf s = first-chart ∙ builds .chart ∙ ap chartAfter e in
-      claim-of-run s calls last said drawing (built-sound kind words s rounds removed e)
+-- from the chart that stands for a sound state
+module _ (s : State) (start last : Chart) (calls : List Call) (said : List Answer) (lines : LinesAnswer)
+    (chain : Chain start calls said last) (asked : lines-reads.Post tt (last, tt) lines (last, tt)) where
+  claim-from : sound s ≡ true → start ≡ chartOf s → Claim s calls last said (drawingSays lines)
+  claim-from h is =
+      claim-of-run s calls last said (drawingSays lines) h
       (chain-chart chain ∙ ap (λ (c : Chart). chartAfterCalls c calls) is)
       (chain-answers chain ∙ ap (λ (c : Chart). answersTo c calls) is) asked
 
-  pub claim-from-bytes : (bytes : List ℕ) (r : ReadChart) → IsRead (reading bytes) r → reading bytes ≡ taken s → start ≡ r .chart
-      → Claim s calls last said drawing
-  unfolding chartAfterReading
-  claim-from-bytes bytes r is-read e first-chart =
-      let is : start ≡ chartOf s = first-chart ∙ is-read .chart ∙ ap chartAfterReading e in
-      claim-of-run s calls last said drawing (read-sound bytes s e)
-      (chain-chart chain ∙ ap (λ (c : Chart). chartAfterCalls c calls) is)
-      (chain-answers chain ∙ ap (λ (c : Chart). answersTo c calls) is) asked
+-- from words that building accepts: the machine starts from the kind and the words given
+pub claim-from-words : (κs : Lfts 1) (kind : ℕ) (words : RefT (List ℤ)) (b : Built)
+    → build-reads.Post κs (kind, (words, tt)) b (kind, (words, tt))
+    → (s : State) → wordsStart kind (now words) ≡ begun s
+    → (calls : List Call) (said : List Answer) (last : Chart) → Chain (b .chart) calls said last
+    → (lines : LinesAnswer) → lines-reads.Post tt (last, tt) lines (last, tt)
+    → Claim s calls last said (drawingSays lines)
+claim-from-words κs kind words b builds s e calls said last chain lines asked =
+    claim-from s (b .chart) last calls said lines chain asked (start-of-building-sound kind (now words) s e)
+    (builds .chart ∙ chart-of-building (building kind (now words)) s e)
+
+-- from bytes that reading accepts
+pub claim-from-bytes : (κs : Lfts 1) (bytes : RefT (List ℕ)) (r : ReadChart)
+    → read-reads.Post κs (bytes, tt) r (bytes, tt)
+    → (s : State) → bytesStart (now bytes) ≡ begun s
+    → (calls : List Call) (said : List Answer) (last : Chart) → Chain (r .chart) calls said last
+    → (lines : LinesAnswer) → lines-reads.Post tt (last, tt) lines (last, tt)
+    → Claim s calls last said (drawingSays lines)
+claim-from-bytes κs bytes r is-read s e calls said last chain lines asked =
+    claim-from s (r .chart) last calls said lines chain asked (start-of-reading-sound (now bytes) s e)
+    (is-read .chart ∙ chart-of-reading (reading (now bytes)) s e)

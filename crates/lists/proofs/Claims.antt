@@ -1,5 +1,5 @@
--- The claim of demand 3 over what a run of calls leaves (`claim-of-run`): the machine's run is the chart's, a sound state stays sound, and a sound
--- state's base has words enough for lines that are as the paper asks.
+-- The claim of demand 3 over what a run of calls leaves (`claim-of-run`): the machine's run is the chart's, a sound state stays sound, and
+-- a sound state's base has words enough for lines that are as the paper asks.
 use mathlib.Core.Path.{_≡_, ap, _∙_}
 use mathlib.Core.Bool.{true}
 use mathlib.Core.List.{List}
@@ -11,7 +11,7 @@ use Rattle.guide.specs.State.{State, limitsFor}
 use Rattle.guide.specs.Limits.{limitsOf, sumsOf}
 use Rattle.guide.specs.Soundness.{sound}
 use Rattle.guide.specs.Machine.{Call, Answer, after}
-use Rattle.guide.specs.Drawing.{DrawingAnswer, drawn, linesOf, Draws, DrawsAnswer}
+use Rattle.guide.specs.Drawing.{DrawingAnswer, drawn, linesOf, Draws}
 use Rattle.guide.proofs.Limits.{v-natural}
 use Rattle.guide.proofs.Lines.{draws-lines}
 use Rattle.chart.specs.declared.Chart.{Chart}

@@ -1,5 +1,5 @@
--- What comes of a list: nothing is run (`nothing-run`, `without-calls`, `without-room`, `without-start`), or its calls are (`with-all`); and, where the
--- program's start is the machine's, the claim (`runs-list`).
+-- What comes of a list: nothing is run (`nothing-run`, `without-calls`, `without-room`, `without-start`), or its calls are (`with-all`);
+-- and, where the program's start is the machine's, the claim (`runs-list`).
 use mathlib.Core.Path.{_≡_, refl, _∙_}
 use mathlib.Core.Bool.{Bool, true, false, false≢true}
 use mathlib.Core.List.{List}
@@ -27,7 +27,8 @@ use Rattle.lists.specs.declared.Run.{Run}
 use Rattle.lists.specs.declared.Start.{Start}
 use Rattle.lists.specs.declared.RunAnswer.{RunAnswer}
 use Rattle.lists.specs.Encoding.{callSize, answerSize, areCalls, callsIn, hasRoom}
-use Rattle.lists.specs.Runs.{Outcome, runs, declines, startRefused, notCalls, noRoom, runSays, outcomeOf, machineStart, Ran, RunGives, RunsList, IsStart}
+use Rattle.lists.specs.Runs.{Outcome, declines, startRefused, notCalls, noRoom, runSays, outcomeOf, machineStart, Ran}
+use Rattle.lists.specs.Runs.{RunGives, RunsList, IsStart}
 use Rattle.lists.specs.Runs.{NothingRun, RanOn, startOn, RunGivesOn, RunsFrom}
 use Rattle.lists.proofs.Decoding.{room-is}
 use Rattle.lists.proofs.Claims.{claim-of-run}
@@ -63,7 +64,8 @@ module _ (p : Start) (calls room out : List ℤ) (r : Run) where
   without-calls h nothing same = rw h (record { nothing = nothing; buffer = same })
 
   module _ (listed : areCalls calls ≡ true) where
-    pub without-room : length room / answerSize < length calls / callSize → NothingRun noRoom r → out ≡ room → RunsFrom p calls room out r
+    pub without-room : length room / answerSize < length calls / callSize → NothingRun noRoom r → out ≡ room
+        → RunsFrom p calls room out r
     unfolding outcomeOf
     without-room h nothing same =
         let none : hasRoom calls room ≡ false = room-is calls room listed ∙ lt-leb (length calls / callSize) (length room / answerSize) h in
@@ -73,7 +75,8 @@ module _ (p : Start) (calls room out : List ℤ) (r : Run) where
       pub without-start : (p .refusal ≡ 0 → ⊥) → NothingRun (startRefused (p .refusal)) r → out ≡ room → RunsFrom p calls room out r
       unfolding outcomeOf
       without-start h nothing same =
-          rw (listed, fits-room calls room listed enough, start-refused (p .chart) (p .refusal) h) (record { nothing = nothing; buffer = same })
+          rw (listed, fits-room calls room listed enough, start-refused (p .chart) (p .refusal) h)
+          (record { nothing = nothing; buffer = same })
 
       pub with-all : p .refusal ≡ 0 → RanOn (p .chart) calls room out r → RunsFrom p calls room out r
       unfolding outcomeOf

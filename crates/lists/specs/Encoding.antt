@@ -21,7 +21,7 @@ answerSize = 3
 unfoldable pub isCallNumber : ℤ → Bool
 isCallNumber z = leZ (pos 1) z && leZ z (pos 4)
 
--- a kind of sixteen bits is itself; any other number is 0, which like it is no chart's kind
+-- a kind of sixteen bits is itself. Any other number is no chart's kind, and stands as 0, which is none either
 unfoldable pub kindOf : ℤ → ℕ
 kindOf (pos n) = choose (leb n 65535) n 0
 kindOf (negsuc n) = 0

@@ -1,5 +1,5 @@
--- What running an encoded list gives: the claim, or a refusal. Document 01 knows no encoded list, so what a list is declined for besides its
--- start has no number of the paper's.
+-- What running an encoded list gives: the claim, or a refusal. Document 01 knows no encoded list, so what a list is declined for besides
+-- its start has no number of the paper's.
 use mathlib.Core.Path.{_≡_}
 use mathlib.Core.List.{List, [], _∷_}
 use Prim.Native.Nat.{ℕ, zero, suc, _+_, _≤_}
@@ -128,7 +128,7 @@ callAt calls at =
 unfoldable pub saidNumbers : Said → List ℤ
 saidNumbers s = s .number ∷ s .first ∷ s .second ∷ []
 
--- the counts that an answer may hold: a renewal rejects from 15 words, and each of its rounds but the last removes one
+-- the counts that an answer may hold: a renewal rejects from 15 words, and each of its rounds but the last removes one or more
 abbrev pub Counted : Answer → Type 0
 Counted answer = (rounds removed : ℕ) → answer ≡ renewed rounds removed → (rounds ≤ suc baseWanted) × (removed ≤ baseWanted)
 

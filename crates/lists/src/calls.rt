@@ -57,7 +57,7 @@ pub fn call_at(chart: Chart, calls: &[i64], at: usize, answers: &mut [i64], plac
     next
 }
 
-// A kind, or 0, which is no chart's kind, for a number that is none of 16 bits.
+// A number of sixteen bits is itself. Any other is no chart's kind, and stands as 0, which is none either.
 fn kind_of(number: i64) -> u16
     ensures { λ r. ⌜ r ≡ kindOf number ⌝ }
 {
@@ -95,6 +95,7 @@ fn call(chart: Chart, number: i64, kind: u16, a: i64, b: i64, c: i64) -> Called
         let said = said_by_correction(answer);
         return Called { chart: after, said };
     }
+    // 4, the only other number of a call.
     let r = chart.renew();
     let after = r.chart;
     let answer = r.answer;

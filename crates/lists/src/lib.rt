@@ -1,9 +1,9 @@
-// Whole lists of calls: document 01, "Lists". A chart is built from words or read from bytes, each call takes the chart that the call before
-// it gave back, and lines are asked of the chart after the last.
+// Whole lists of calls: document 01, "Lists". A chart is built from words or read from bytes, each call takes the chart that the call
+// before it gave back, and lines are asked of the chart after the last.
 //
 // A list is numbers, five to a call: 1 post, 2 reanalysis, 3 correction or 4 renewal; then a kind and three numbers, which a correction
-// and a renewal do not look at. An answer is three numbers: the call's number and word and verdict (1), word and 1 for passed or 0 for failed
-// (2), 0 and 0 (3), rounds and number removed (4); or 0, the number of the refusal and 0.
+// and a renewal do not look at. An answer is three numbers: the call's number and word and verdict (1), word and 1 for passed or 0 for
+// failed (2), 0 and 0 (3), rounds and number removed (4); or 0, the number of the refusal and 0.
 //
 // In this order, numbers that are no list, a buffer without room for all answers, and a start that building or reading declines are
 // declined. Then nothing is run: the buffer is as it was, and the chart of zeros comes, of which there are no lines.
@@ -23,9 +23,7 @@ use store::ReadAnswer;
 use store::read;
 ghost use mathlib.Core.Path.{_≡_};
 ghost use mathlib.Core.Bool.{true};
-ghost use Rattle.guide.specs.Building.{building};
-ghost use Rattle.guide.specs.Reading.{reading};
-ghost use Rattle.guide.specs.Lists.{startOfBuilding, startOfReading};
+ghost use Rattle.guide.specs.Lists.{wordsStart, bytesStart};
 ghost use Rattle.lists.specs.Encoding.{areCalls, hasRoom};
 ghost use Rattle.lists.specs.Runs.{RunsList, IsStart, RunsFrom, RunsCalls, NothingRun, runSays};
 
@@ -55,7 +53,7 @@ struct Start {
 
 // Builds a chart from words, and runs a list of calls from it.
 pub fn run_from_words(kind: u16, words: &[i16], calls: &[i64], answers: &mut [i64]) -> Run
-    ensures { λ r. ⌜ RunsList (startOfBuilding (building kind (now (words .entry)))) (now (calls .entry)) (now (answers .entry)) (now (answers .exit)) r ⌝ }
+    ensures { λ r. ⌜ RunsList (wordsStart kind (now (words .entry))) (now (calls .entry)) (now (answers .entry)) (now (answers .exit)) r ⌝ }
 {
     let start = start_of_words(kind, words);
     run_from(start, calls, answers)
@@ -63,14 +61,14 @@ pub fn run_from_words(kind: u16, words: &[i16], calls: &[i64], answers: &mut [i6
 
 // Reads a chart from bytes, and runs a list of calls from it.
 pub fn run_from_bytes(bytes: &[u8], calls: &[i64], answers: &mut [i64]) -> Run
-    ensures { λ r. ⌜ RunsList (startOfReading (reading (now (bytes .entry)))) (now (calls .entry)) (now (answers .entry)) (now (answers .exit)) r ⌝ }
+    ensures { λ r. ⌜ RunsList (bytesStart (now (bytes .entry))) (now (calls .entry)) (now (answers .entry)) (now (answers .exit)) r ⌝ }
 {
     let start = start_of_bytes(bytes);
     run_from(start, calls, answers)
 }
 
 fn start_of_words(kind: u16, words: &[i16]) -> Start
-    ensures { λ r. ⌜ IsStart (startOfBuilding (building kind (now (words .entry)))) r ⌝ }
+    ensures { λ r. ⌜ IsStart (wordsStart kind (now (words .entry))) r ⌝ }
 {
     let b = Chart::build(kind, words);
     let chart = b.chart;
@@ -82,7 +80,7 @@ fn start_of_words(kind: u16, words: &[i16]) -> Start
 }
 
 fn start_of_bytes(bytes: &[u8]) -> Start
-    ensures { λ r. ⌜ IsStart (startOfReading (reading (now (bytes .entry)))) r ⌝ }
+    ensures { λ r. ⌜ IsStart (bytesStart (now (bytes .entry))) r ⌝ }
 {
     let b = read(bytes);
     let chart = b.chart;

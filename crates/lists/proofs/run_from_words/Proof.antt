@@ -1,8 +1,7 @@
 -- `lists::run_from_words` meets its contract.
 use borrow.Author.Needs.{needs}
 use denote.Ref.{now}
-use Rattle.guide.specs.Building.{building}
-use Rattle.guide.specs.Lists.{startOfBuilding}
+use Rattle.guide.specs.Lists.{wordsStart}
 use Rattle.guide.proofs.Lists.{start-of-building-sound}
 use Rattle.lists.proofs.Outcomes.{runs-list}
 use Rattle.lists.proofs.run_from_words.Statement.{statement}
@@ -21,7 +20,7 @@ returns : tie.Need-returns
 returns c =
     let s = c .before .before .before .before .args in
     let start = c .before .before .before .start-of-words in
-    runs-list _ _ _ (c .before .run-from .result) (startOfBuilding (building (s .kind) (now (s .words)))) (start .result)
+    runs-list _ _ _ (c .before .run-from .result) (wordsStart (s .kind) (now (s .words))) (start .result)
     (start-of-building-sound (s .kind) (now (s .words))) (start .ensures) (c .before .run-from .ensures)
 
 pub run-from-words-spec : {M : Type 1} → statement M
