@@ -1,1 +1,3 @@
+pub mod Floats
 pub mod Numbers
+pub mod Words

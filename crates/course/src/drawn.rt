@@ -40,7 +40,7 @@ pub fn drawn_lines(a: Chart, k: Chart, z: Chart) -> usize
     refused_lines(a)
 }
 
-// Base C, and its words below 0; a base as wide as the range; two bases that have a line next to a word.
+// Base C, and its negation; a base as wide as the range; two bases with a limit less than 1/256 from a word.
 fn two_sided_lines() -> usize
     ensures { λ r. ⌜ r ≡ 4 ⌝ }
 {

@@ -1,5 +1,5 @@
-// Runs lists of calls and prints what comes: the answer, every number of the lent buffer, the chart after the list, and its lines. A function
-// that runs several lists answers how many.
+// Runs lists of calls and prints what comes: the answer, every number of the lent buffer, the chart after the list, and its lines. A
+// function that runs several lists answers how many.
 use crate::around;
 use crate::drawn::chart_of_runs;
 use crate::drawn::show_drawing;
@@ -17,9 +17,7 @@ use store::write;
 ghost use mathlib.Core.Path.{_≡_};
 ghost use Prim.Native.Nat.{_*_, _≤_};
 ghost use lib.ListN.{length};
-ghost use Rattle.guide.specs.Building.{building};
-ghost use Rattle.guide.specs.Reading.{reading};
-ghost use Rattle.guide.specs.Lists.{startOfBuilding, startOfReading};
+ghost use Rattle.guide.specs.Lists.{wordsStart, bytesStart};
 ghost use Rattle.course.specs.Runs.{Shows};
 
 pub fn lists_run(a: Chart) -> usize
@@ -28,8 +26,8 @@ pub fn lists_run(a: Chart) -> usize
     io::write_all(STDOUT_FILENO, b"Lists\n");
     lists_of_a();
     lists_of_others();
-    no_lists();
-    no_starts();
+    declined_lists();
+    declined_starts();
     read_lists(a)
 }
 
@@ -106,7 +104,8 @@ fn lists_of_others() -> usize
     3
 }
 
-fn no_lists() -> usize
+// Numbers that are no list, and a list without room.
+fn declined_lists() -> usize
     ensures { λ r. ⌜ r ≡ 8 ⌝ }
 {
     let a = around(9900, 10100, 10000);
@@ -127,7 +126,7 @@ fn no_lists() -> usize
 }
 
 // Words that building declines, with a list that can be run, one that is none, and one without room.
-fn no_starts() -> usize
+fn declined_starts() -> usize
     ensures { λ r. ⌜ r ≡ 5 ⌝ }
 {
     let call = [3i64, 0, 0, 0, 0];
@@ -201,7 +200,7 @@ fn show_stored(text: &[u8], chart: Chart, status: u8, calls: &[i64]) -> usize
 }
 
 fn show_built(text: &[u8], kind: u16, words: &[i16], calls: &[i64]) -> Run
-    ensures { λ r. ⌜ Shows (startOfBuilding (building kind (now (words .entry)))) (now (calls .entry)) r ⌝ }
+    ensures { λ r. ⌜ Shows (wordsStart kind (now (words .entry))) (now (calls .entry)) r ⌝ }
 {
     let mut answers = [7i64; 24];
     let r = run_from_words(kind, words, calls, &mut answers);
@@ -209,7 +208,7 @@ fn show_built(text: &[u8], kind: u16, words: &[i16], calls: &[i64]) -> Run
 }
 
 fn show_read(text: &[u8], bytes: &[u8], calls: &[i64]) -> Run
-    ensures { λ r. ⌜ Shows (startOfReading (reading (now (bytes .entry)))) (now (calls .entry)) r ⌝ }
+    ensures { λ r. ⌜ Shows (bytesStart (now (bytes .entry))) (now (calls .entry)) r ⌝ }
 {
     let mut answers = [7i64; 24];
     let r = run_from_bytes(bytes, calls, &mut answers);

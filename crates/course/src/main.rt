@@ -1,6 +1,7 @@
 // Runs the figures of the course about words, charts, the calls on a chart, stored forms, lines and lists of calls, with cases at the
-// edges of the paper's rules, and prints each answer. What it prints is compared with the file `stdout`. No contract can say what is printed; a function here
-// answers the word or the chart that it prints, and one that runs several figures the chart that later figures go on from, or the last.
+// edges of the paper's rules, and prints each answer. What it prints is compared with the file `stdout`. No contract can say what is
+// printed; a function here answers the word or the chart that it prints, and one that runs several figures the chart that later figures
+// go on from, or the last.
 mod drawn;
 mod forms;
 mod listed;

@@ -37,7 +37,7 @@ loop-less c = omega (arith, middle (c .before))
 loop-again : tie.Need-loop-again Inv-loop μ-loop
 loop-again c =
     let l = c .before .before .loop in
-    up-to (c .before .before .before .args .q) (l .low) (l .high) (l .inv) (c .before .loop-test .taken) (c .if1 .taken)
+    up-to (c .before .before .before .args .q) (l .low) (l .high) (l .inv) (c .before .loop-test .taken) (omega (arith, c .if1 .taken))
 
 loop-less-2 : tie.Need-loop-less-2 Inv-loop μ-loop
 loop-less-2 c = omega (arith, middle (c .before))
@@ -45,7 +45,7 @@ loop-less-2 c = omega (arith, middle (c .before))
 loop-again-2 : tie.Need-loop-again-2 Inv-loop μ-loop
 loop-again-2 c =
     let l = c .before .before .loop in
-    down-to (c .before .before .before .args .q) (l .low) (l .high) (l .inv) (c .before .loop-test .taken) (c .if1 .left)
+    down-to (c .before .before .before .args .q) (l .low) (l .high) (l .inv) (c .before .loop-test .taken) (omega (arith, c .if1 .left))
 
 cast-result : tie.Need-cast-result Inv-loop μ-loop
 cast-result c = omega (arith, c .before .loop .inv)
