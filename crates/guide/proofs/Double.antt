@@ -212,7 +212,3 @@ parts-is x (negsuc n) v = parts-value x true (suc n) v
 
 pub parts-of-double : (k : ℤ) → partsIn (doubleOf k) ≡ k
 parts-of-double k = parts-is (doubleOf k) k (double-denotes k)
-
--- so the k that is read off it denotes it
-pub double-of-parts : (k : ℤ) → doubleOf k ≡ doubleOf (partsIn (doubleOf k))
-double-of-parts k = ap doubleOf (sym (parts-of-double k))

@@ -12,7 +12,7 @@ use lib.ListN.{length}
 use lib.Dec.{ltb}
 use lib.IntN.{ℤ, pos, negsuc, natAbs, negℤ, _+ℤ_, _-ℤ_, _*ℤ_}
 use lib.Signed.{ltZ, leZ}
-use lib.Ieee.{Float, binary64, toBits}
+use lib.Ieee.{binary64, toBits}
 use borrow.Author.Tests.{lt-ltb, le-ltb, ltb-false, le-leb, leb-true}
 use Rattle.guide.specs.Sizes.{lineParts}
 use Rattle.guide.specs.Limits.{Sums, vOf, scaledDeviation, exceeds, squareOf, aboveMean, belowMean, above, below}
@@ -22,8 +22,8 @@ use Rattle.guide.specs.AllOf.{allOf}
 use Rattle.guide.specs.Building.{allInRange}
 use Rattle.guide.specs.SquareRoot.{squareRoot}
 use Rattle.guide.specs.Double.{Denotes, doubleOf, bitsOf, partsIn}
-use Rattle.guide.specs.Drawing.{Lines, duplicate, twoSided, linesOf, beyondEach, aboveLine, belowLine, beyondLines}
-use Rattle.guide.specs.Drawing.{DrawsUpper, DrawsLower, DrawsMean, Draws}
+use Rattle.guide.specs.Drawing.{Lines, duplicate, twoSided, linesOf, beyondEach, aboveLine, belowLine, beyondBy, beyondLines}
+use Rattle.guide.specs.Drawing.{IsLineDouble, DrawsUpper, DrawsLower, DrawsMean, Draws}
 use Rattle.guide.specs.Lines.{partsDeviation, partsAboveMean, partsAbove, partsBelow, IsGreatestNot, IsLeastNot}
 use Rattle.guide.specs.Lines.{IsUpperLine, IsLowerLine, IsMeanLine, quotientDown, quotientUp, greatestDeviation}
 use Rattle.guide.specs.Lines.{upperLine, lowerLine, meanLine}
@@ -34,7 +34,7 @@ use Rattle.guide.proofs.Limits.{exceeds-natural, squares-are}
 use Rattle.guide.proofs.SquareRoot.{root-is}
 use Rattle.guide.proofs.Booleans.{both}
 use Rattle.guide.proofs.Choice.{choose-ind}
-use Rattle.guide.proofs.Double.{double-denotes, denotes-bits, parts-of-double, double-of-parts}
+use Rattle.guide.proofs.Double.{double-denotes, denotes-bits, parts-of-double}
 use Rattle.guide.proofs.Kind.{in-range-few}
 
 -- ---- a number that exactly the greater ones, or exactly the less ones, pass a test by
@@ -244,9 +244,18 @@ close-above k e = e (k +ℤ pos 1) ∙ next-is k
 close-below : {test : ℤ → Bool} (k : ℤ) → ((j : ℤ) → test j ≡ ltZ j k) → test (k -ℤ pos 1) ≡ true
 close-below k e = e (k -ℤ pos 1) ∙ before-is k
 
--- what is so of a double by its k, of the double that denotes k / 256
-by-parts : (P : Float → ℤ → Type 0) (k : ℤ) → P (doubleOf k) k → P (doubleOf k) (partsIn (doubleOf k))
+-- what is so of k is so of the k that is read off its double
+by-parts : (P : ℤ → Type 0) (k : ℤ) → P k → P (partsIn (doubleOf k))
 by-parts P k p = rw (parts-of-double k) p
+
+line-double : (k : ℤ) → IsLineDouble (doubleOf k)
+line-double k =
+    let d = double-denotes k in
+    record {
+      denotes = by-parts (Denotes (doubleOf k)) k d;
+      same = ap doubleOf (sym (parts-of-double k));
+      bits = by-parts (λ j. toBits binary64 (doubleOf k) ≡ bitsOf j) k (denotes-bits (doubleOf k) k d);
+    }
 
 module _ (s : Sums) (two : 2 ≤ s .n) (natural : vOf s ≡ pos (natAbs (vOf s))) where
   pub draws-upper : (m : ℕ) → DrawsUpper m s (doubleOf (upperLine m s))
@@ -255,11 +264,9 @@ module _ (s : Sums) (two : 2 ≤ s .n) (natural : vOf s ≡ pos (natAbs (vOf s))
       let k = upperLine m s in
       let is = above-upper s two natural m in
       record {
-        denotes = by-parts Denotes k (double-denotes k);
-        double = double-of-parts k;
-        bits = by-parts (λ x j. toBits binary64 x ≡ bitsOf j) k (denotes-bits (doubleOf k) k (double-denotes k));
-        line = by-parts (λ _ j. IsUpperLine m s j) k (greatest-not is);
-        close = by-parts (λ _ j. partsAbove m s (j +ℤ pos 1) ≡ true) k (close-above k is);
+        double = line-double k;
+        line = by-parts (λ j. IsUpperLine m s j) k (greatest-not is);
+        close = by-parts (λ j. partsAbove m s (j +ℤ pos 1) ≡ true) k (close-above k is);
         judges = λ w.
             ap (λ (j : ℤ). ltZ j (pos lineParts *ℤ w)) (parts-of-double k) ∙ sym (is (pos lineParts *ℤ w)) ∙ word-above s natural m w;
       }
@@ -270,11 +277,9 @@ module _ (s : Sums) (two : 2 ≤ s .n) (natural : vOf s ≡ pos (natAbs (vOf s))
       let k = lowerLine m s in
       let is = below-lower s two natural m in
       record {
-        denotes = by-parts Denotes k (double-denotes k);
-        double = double-of-parts k;
-        bits = by-parts (λ x j. toBits binary64 x ≡ bitsOf j) k (denotes-bits (doubleOf k) k (double-denotes k));
-        line = by-parts (λ _ j. IsLowerLine m s j) k (least-not is);
-        close = by-parts (λ _ j. partsBelow m s (j -ℤ pos 1) ≡ true) k (close-below k is);
+        double = line-double k;
+        line = by-parts (λ j. IsLowerLine m s j) k (least-not is);
+        close = by-parts (λ j. partsBelow m s (j -ℤ pos 1) ≡ true) k (close-below k is);
         judges = λ w. ap (ltZ (pos lineParts *ℤ w)) (parts-of-double k) ∙ sym (is (pos lineParts *ℤ w)) ∙ word-below s natural m w;
       }
 
@@ -283,11 +288,9 @@ draws-mean s some =
     let k = meanLine s in
     let is = above-mean s some in
     record {
-      denotes = by-parts Denotes k (double-denotes k);
-      double = double-of-parts k;
-      bits = by-parts (λ x j. toBits binary64 x ≡ bitsOf j) k (denotes-bits (doubleOf k) k (double-denotes k));
-      line = by-parts (λ _ j. IsMeanLine s j) k (greatest-not is);
-      close = by-parts (λ _ j. partsAboveMean s (j +ℤ pos 1) ≡ true) k (close-above k is);
+      double = line-double k;
+      line = by-parts (λ j. IsMeanLine s j) k (greatest-not is);
+      close = by-parts (λ j. partsAboveMean s (j +ℤ pos 1) ≡ true) k (close-above k is);
     }
 
 -- ---- all lines of a chart
@@ -315,7 +318,7 @@ module _ (limits : Limits) (two : 2 ≤ limits .sums .n) (natural : vOf (limits 
 
 -- lines that are drawn so judge every word as the limits do
 pub judged-by-drawn : (limits : Limits) (lines : Lines) → Draws limits lines → (w : ℤ) → beyondLines lines w ≡ beyondEach limits w
-unfolding beyondLines beyondEach beyondUpper beyondLower
+unfolding beyondLines beyondBy beyondEach beyondUpper beyondLower
 judged-by-drawn limits (duplicate mean upperWarning upperControl) d w =
     λ i. record {
       lowerWarning = ap (λ (t : Bool). t && below warningMultiple (limits .sums) w) (sym (d .kind)) i;

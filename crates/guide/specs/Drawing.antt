@@ -62,49 +62,54 @@ aboveLine x w = ltZ (partsIn x) (pos lineParts *ℤ w)
 unfoldable pub belowLine : Float → ℤ → Bool
 belowLine x w = ltZ (pos lineParts *ℤ w) (partsIn x)
 
--- by the lines: "The mean line is no limit, and no word is judged by its double." Lines of kind 1 have no lower limit
-unfoldable pub beyondLines : Lines → ℤ → BeyondEach
-beyondLines (duplicate mean upperWarning upperControl) w =
+-- a word against each limit that lines have, by what it is to be above a line and below it. "The mean line is no limit, and no word is
+-- judged by its double." Lines of kind 1 have no lower limit
+unfoldable pub beyondBy : (above below : Float → ℤ → Bool) → Lines → ℤ → BeyondEach
+beyondBy above below (duplicate mean upperWarning upperControl) w =
     record {
       lowerWarning = false;
-      upperWarning = aboveLine upperWarning w;
+      upperWarning = above upperWarning w;
       lowerControl = false;
-      upperControl = aboveLine upperControl w;
+      upperControl = above upperControl w;
     }
-beyondLines (twoSided mean lowerWarning upperWarning lowerControl upperControl) w =
+beyondBy above below (twoSided mean lowerWarning upperWarning lowerControl upperControl) w =
     record {
-      lowerWarning = belowLine lowerWarning w;
-      upperWarning = aboveLine upperWarning w;
-      lowerControl = belowLine lowerControl w;
-      upperControl = aboveLine upperControl w;
+      lowerWarning = below lowerWarning w;
+      upperWarning = above upperWarning w;
+      lowerControl = below lowerControl w;
+      upperControl = above upperControl w;
     }
 
--- ---- what demand 3 says of drawn lines
+-- by the lines
+unfoldable pub beyondLines : Lines → ℤ → BeyondEach
+beyondLines lines w = beyondBy aboveLine belowLine lines w
 
--- the double x of a limit denotes k / 256, and its bits are k's; k is the paper's, and less than 1 away from 256 times the exact limit;
--- and any word w lies beyond the double exactly if it lies beyond the exact limit
+-- ---- what demand 3 says of drawn lines, for the whole number k that is read off a double
 
-pub record DrawsUpper (m : ℕ) (s : Sums) (x : Float) : Type 0 where
+-- the double denotes k / 256, and its bits are those of k / 256
+pub record IsLineDouble (x : Float) : Type 0 where
   pub denotes : Denotes x (partsIn x)
-  pub double : x ≡ doubleOf (partsIn x)
+  pub same : x ≡ doubleOf (partsIn x)
   pub bits : toBits binary64 x ≡ bitsOf (partsIn x)
+
+-- an upper limit: k is the greatest not above 256 times the exact limit, and less than 1 away from it; and any word w lies above the double
+-- exactly if it lies above the exact limit
+pub record DrawsUpper (m : ℕ) (s : Sums) (x : Float) : Type 0 where
+  pub double : IsLineDouble x
   pub line : IsUpperLine m s (partsIn x)
   pub close : partsAbove m s (partsIn x +ℤ pos 1) ≡ true
   pub judges : (w : ℤ) → aboveLine x w ≡ above m s w
 
+-- a lower limit: the least not below, and the like
 pub record DrawsLower (m : ℕ) (s : Sums) (x : Float) : Type 0 where
-  pub denotes : Denotes x (partsIn x)
-  pub double : x ≡ doubleOf (partsIn x)
-  pub bits : toBits binary64 x ≡ bitsOf (partsIn x)
+  pub double : IsLineDouble x
   pub line : IsLowerLine m s (partsIn x)
   pub close : partsBelow m s (partsIn x -ℤ pos 1) ≡ true
   pub judges : (w : ℤ) → belowLine x w ≡ below m s w
 
--- the double of the mean line, by which no word is judged
+-- the mean line, by which no word is judged
 pub record DrawsMean (s : Sums) (x : Float) : Type 0 where
-  pub denotes : Denotes x (partsIn x)
-  pub double : x ≡ doubleOf (partsIn x)
-  pub bits : toBits binary64 x ≡ bitsOf (partsIn x)
+  pub double : IsLineDouble x
   pub line : IsMeanLine s (partsIn x)
   pub close : partsAboveMean s (partsIn x +ℤ pos 1) ≡ true
 

@@ -11,7 +11,7 @@ use Rattle.guide.specs.Kind.{hasLower}
 use Rattle.guide.specs.Limits.{Limits, controlMultiple, warningMultiple}
 use Rattle.guide.specs.Double.{doubleOf}
 use Rattle.guide.specs.Lines.{upperLine, lowerLine}
-use Rattle.guide.specs.Drawing.{linesOf, aboveLine, belowLine, beyondLines}
+use Rattle.guide.specs.Drawing.{linesOf, aboveLine, belowLine, beyondBy, beyondLines}
 use Rattle.guide.proofs.Choice.{choose-ind}
 use Rattle.guide.proofs.Double.{above-is, below-is, double-denotes, parts-of-double}
 use Rattle.lines.specs.declared.Lines.{Lines}
@@ -31,7 +31,7 @@ module _ (w : ℤ) (few : natAbs w ≤ 2 ^ 53) where
   float-below k = rw (parts-of-double k) (below-is (doubleOf k) k w few (double-denotes k))
 
   pub float-beyond : (limits : Limits) → floatBeyond (linesOf limits) w ≡ beyondLines (linesOf limits) w
-  unfolding linesOf floatBeyond beyondLines
+  unfolding linesOf floatBeyond beyondLines beyondBy
   float-beyond limits =
       let s = limits .sums in
       let upper-warning = float-above (upperLine warningMultiple s) in
@@ -55,7 +55,7 @@ module _ (lines : Lines) (w : ℤ) (fit : SFits w16 w) where
       → a ≡ floatAbove upperWarning (heldWord w) → b ≡ floatAbove upperControl (heldWord w)
       → beyondSays (record { «lower_warning» = false; «upper_warning» = a; «lower_control» = false; «upper_control» = b })
       ≡ floatBeyond (linesSay lines) w
-  unfolding beyondSays floatBeyond linesSay
+  unfolding beyondSays floatBeyond beyondBy linesSay
   against-duplicate mean upperWarning upperControl a b e f g = rw (e, f, g, toZ-ofZ fit)
 
   pub against-two-sided : (l : TwoSidedLines) (a b c d : Bool) → lines ≡ TwoSided l
@@ -63,5 +63,5 @@ module _ (lines : Lines) (w : ℤ) (fit : SFits w16 w) where
       → c ≡ floatBelow (l .«lower_control») (heldWord w) → d ≡ floatAbove (l .«upper_control») (heldWord w)
       → beyondSays (record { «lower_warning» = a; «upper_warning» = b; «lower_control» = c; «upper_control» = d })
       ≡ floatBeyond (linesSay lines) w
-  unfolding beyondSays floatBeyond linesSay
+  unfolding beyondSays floatBeyond beyondBy linesSay
   against-two-sided l a b c d e f g h k = rw (e, f, g, h, k, toZ-ofZ fit)

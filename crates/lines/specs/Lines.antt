@@ -1,13 +1,13 @@
 -- What the values of `lines` say in the paper's terms, and what its functions give.
 use mathlib.Core.Path.{_≡_}
-use mathlib.Core.Bool.{Bool, false}
+use mathlib.Core.Bool.{Bool}
 use Prim.Native.Nat.{ℕ, _*_, _≤_, _^_}
 use lib.IntN.{ℤ, natAbs}
 use lib.Ieee.{Float, lt, ofInt, binary64}
 use Rattle.guide.specs.Choice.{require}
 use Rattle.guide.specs.Kind.{wordMost}
 use Rattle.guide.specs.State.{limitsFor}
-use Rattle.guide.specs.Drawing.{DrawingAnswer, drawn, refused, linesOf, beyondEach}
+use Rattle.guide.specs.Drawing.{DrawingAnswer, drawn, refused, linesOf, beyondEach, beyondBy}
 use Rattle.guide.specs.Drawing as guide
 use Rattle.limits.specs.declared.Sums.{Sums}
 use Rattle.limits.specs.Sums.{Bounded}
@@ -69,20 +69,7 @@ abbrev pub floatBelow : Float → ℤ → Bool
 floatBelow x w = lt (ofInt binary64 w) x
 
 unfoldable pub floatBeyond : guide.Lines → ℤ → guide.BeyondEach
-floatBeyond (guide.duplicate mean upperWarning upperControl) w =
-    record {
-      lowerWarning = false;
-      upperWarning = floatAbove upperWarning w;
-      lowerControl = false;
-      upperControl = floatAbove upperControl w;
-    }
-floatBeyond (guide.twoSided mean lowerWarning upperWarning lowerControl upperControl) w =
-    record {
-      lowerWarning = floatBelow lowerWarning w;
-      upperWarning = floatAbove upperWarning w;
-      lowerControl = floatBelow lowerControl w;
-      upperControl = floatAbove upperControl w;
-    }
+floatBeyond lines w = beyondBy floatAbove floatBelow lines w
 
 -- ---- what the functions within ask and give
 
