@@ -76,8 +76,8 @@ allNumbersOf (answer ∷ answers) = numbersOf answer ++ allNumbersOf answers
 
 -- the buffer has room for the answers of all calls
 unfoldable pub hasRoom : List ℤ → List ℤ → Bool
-hasRoom calls room = leb (answerSize * length (callsIn calls)) (length room)
+hasRoom calls buffer = leb (answerSize * length (callsIn calls)) (length buffer)
 
 -- the answers at the front of the buffer, and all after them as it was
 unfoldable pub withAnswers : List Answer → List ℤ → List ℤ
-withAnswers said room = allNumbersOf said ++ drop (length (allNumbersOf said)) room
+withAnswers said buffer = allNumbersOf said ++ drop (length (allNumbersOf said)) buffer

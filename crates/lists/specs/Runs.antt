@@ -46,20 +46,21 @@ pub data Outcome (A : Type 0) : Type 0 where
   declines : RunSaid → Outcome A
 
 -- numbers that are no list are declined first, then a buffer without room for all answers, and then a start that is declined
-unfoldable pub outcomeOf : {A : Type 0} → (start : Outcome A) (calls room : List ℤ) → Outcome A
-outcomeOf start calls room = require (areCalls calls) (declines notCalls) (require (hasRoom calls room) (declines noRoom) start)
+unfoldable pub outcomeOf : {A : Type 0} → (start : Outcome A) (calls before : List ℤ) → Outcome A
+outcomeOf start calls before = require (areCalls calls) (declines notCalls) (require (hasRoom calls before) (declines noRoom) start)
 
 -- the machine's start, or the number by which building or reading declined
 unfoldable pub machineStart : guide.Start → Outcome State
 machineStart (guide.begun s) = runs s
 machineStart (guide.declined n) = declines (startRefused n)
 
--- a list that is run: the claim of its chart, its answers and its lines, and the answers at the front of the buffer
-pub record Ran (s : State) (calls : List Call) (room out : List ℤ) (r : Run) : Type 0 where
+-- `before` and `after` are the numbers of the lent buffer before the list and after it.
+-- A list that is run: the claim of its chart, its answers and its lines, and the answers at the front of the buffer
+pub record Ran (s : State) (calls : List Call) (before after : List ℤ) (r : Run) : Type 0 where
   pub says : runSays (r .answer) ≡ done
   pub said : List Answer
   pub claim : Claim s calls (r .chart) said (drawingSays (r .lines))
-  pub buffer : out ≡ withAnswers said room
+  pub buffer : after ≡ withAnswers said before
 
 -- nothing is run: the chart of zeros, of which there are no lines
 pub record NothingRun (answer : RunSaid) (r : Run) : Type 0 where
@@ -68,17 +69,17 @@ pub record NothingRun (answer : RunSaid) (r : Run) : Type 0 where
   pub lines : drawingSays (r .lines) ≡ refused 14
 
 -- a list that is declined: every number of the buffer is as it was
-pub record Declined (answer : RunSaid) (room out : List ℤ) (r : Run) : Type 0 where
+pub record Declined (answer : RunSaid) (before after : List ℤ) (r : Run) : Type 0 where
   pub nothing : NothingRun answer r
-  pub buffer : out ≡ room
+  pub buffer : after ≡ before
 
-abbrev pub RunGives : Outcome State → (calls room out : List ℤ) → Run → Type 0
-RunGives (runs s) calls room out r = Ran s (callsIn calls) room out r
-RunGives (declines answer) calls room out r = Declined answer room out r
+abbrev pub RunGives : Outcome State → (calls before after : List ℤ) → Run → Type 0
+RunGives (runs s) calls before after r = Ran s (callsIn calls) before after r
+RunGives (declines answer) calls before after r = Declined answer before after r
 
 -- the contract of running a list
-abbrev pub RunsList : guide.Start → (calls room out : List ℤ) → Run → Type 0
-RunsList start calls room out r = RunGives (outcomeOf (machineStart start) calls room) calls room out r
+abbrev pub RunsList : guide.Start → (calls before after : List ℤ) → Run → Type 0
+RunsList start calls before after r = RunGives (outcomeOf (machineStart start) calls before) calls before after r
 
 -- ---- what the functions within give
 
@@ -97,27 +98,27 @@ IsStart (guide.begun s) start = Begins s start
 IsStart (guide.declined n) start = DoesNotBegin n start
 
 -- a list that is run on any chart
-pub record RanOn (c : Chart) (calls room out : List ℤ) (r : Run) : Type 0 where
+pub record RanOn (c : Chart) (calls before after : List ℤ) (r : Run) : Type 0 where
   pub says : runSays (r .answer) ≡ done
   pub chart : r .chart ≡ chartAfterCalls c (callsIn calls)
-  pub buffer : out ≡ withAnswers (answersTo c (callsIn calls)) room
+  pub buffer : after ≡ withAnswers (answersTo c (callsIn calls)) before
   pub lines : drawingSays (r .lines) ≡ answerToLines (r .chart)
 
 abbrev pub startOn : Chart → ℕ → Outcome Chart
 startOn c zero = runs c
 startOn c (suc n) = declines (startRefused (suc n))
 
-abbrev pub RunGivesOn : Outcome Chart → (calls room out : List ℤ) → Run → Type 0
-RunGivesOn (runs c) calls room out r = RanOn c calls room out r
-RunGivesOn (declines answer) calls room out r = Declined answer room out r
+abbrev pub RunGivesOn : Outcome Chart → (calls before after : List ℤ) → Run → Type 0
+RunGivesOn (runs c) calls before after r = RanOn c calls before after r
+RunGivesOn (declines answer) calls before after r = Declined answer before after r
 
-abbrev pub RunsFrom : Start → (calls room out : List ℤ) → Run → Type 0
-RunsFrom start calls room out r = RunGivesOn (outcomeOf (startOn (start .chart) (start .refusal)) calls room) calls room out r
+abbrev pub RunsFrom : Start → (calls before after : List ℤ) → Run → Type 0
+RunsFrom start calls before after r = RunGivesOn (outcomeOf (startOn (start .chart) (start .refusal)) calls before) calls before after r
 
 -- the chart after the calls, and their answers
-pub record RunsCalls (c : Chart) (calls room out : List ℤ) (after : Chart) : Type 0 where
-  pub chart : after ≡ chartAfterCalls c (callsIn calls)
-  pub buffer : out ≡ withAnswers (answersTo c (callsIn calls)) room
+pub record RunsCalls (c : Chart) (calls before after : List ℤ) (last : Chart) : Type 0 where
+  pub chart : last ≡ chartAfterCalls c (callsIn calls)
+  pub buffer : after ≡ withAnswers (answersTo c (callsIn calls)) before
 
 -- the call that stands at a place of the numbers
 unfoldable pub callAt : List ℤ → ℕ → Call
@@ -138,6 +139,6 @@ pub record IsCalled (c : Chart) (call : Call) (r : Called) : Type 0 where
   pub says : saidNumbers (r .said) ≡ numbersOf (answerTo c call)
 
 -- the call at a place of the list, with its answer put into the buffer
-pub record IsCalledAt (c : Chart) (calls : List ℤ) (at : ℕ) (room : List ℤ) (place : ℕ) (out : List ℤ) (r : Chart) : Type 0 where
+pub record IsCalledAt (c : Chart) (calls : List ℤ) (at : ℕ) (before : List ℤ) (place : ℕ) (after : List ℤ) (r : Chart) : Type 0 where
   pub chart : r ≡ nextChart c (callAt calls at)
-  pub buffer : out ≡ sets room place (numbersOf (answerTo c (callAt calls at)))
+  pub buffer : after ≡ sets before place (numbersOf (answerTo c (callAt calls at)))
