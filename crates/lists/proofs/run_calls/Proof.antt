@@ -20,7 +20,7 @@ loop-holds c = starts-at (now (c .args .calls)) (now (c .args .answers)) (c .arg
 -- the numbers of the next call are there, and there is room for its answer
 fits : (c : tie.After-call-at-arg Inv-loop μ-loop) → let l = c .before .before in
     (l .loop .at + callSize ≤ length (now (l .before .args .calls))) × (l .loop .place + answerSize ≤ length (l .loop .answers))
-fits c = call-fits (c .before .before .loop .inv) (c .before .loop-test .taken)
+fits c = call-fits (c .before .before .loop .inv) (omega (arith, c .before .loop-test .taken))
 
 call-at-requires : tie.Need-call-at-requires Inv-loop μ-loop
 call-at-requires c κs = fits c
@@ -37,13 +37,13 @@ loop-less c = omega (arith, c .before .before .before .loop-test .taken)
 loop-again : tie.Need-loop-again Inv-loop μ-loop
 loop-again c =
     let test = c .before .before .before in
-    one-more (test .before .loop .inv) (test .loop-test .taken) _ (c .before .call-at .result) (c .before .call-at .ensures)
+    one-more (test .before .loop .inv) (omega (arith, test .loop-test .taken)) _ (c .before .call-at .result) (c .before .call-at .ensures)
 
 same-length : tie.Need-same-length Inv-loop μ-loop
 same-length c = c .before .loop .inv .long
 
 returns : tie.Need-returns Inv-loop μ-loop
-returns c = finished (c .before .loop .inv) (c .loop-test .left)
+returns c = finished (c .before .loop .inv) (omega (arith, c .loop-test .left))
 
 pub run-calls-spec : {M : Type 1} → statement M
 run-calls-spec =
