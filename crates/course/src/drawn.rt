@@ -89,7 +89,7 @@ fn duplicate_lines() -> usize
     show_against(b"G", g, &[2, 3, 4])
 }
 
-// Seven words of 20000 and three of -20000: the upper control line takes more than 24 binary digits.
+// Seven words of 20000 and three of -20000: the k of the upper control line takes more than 24 binary digits.
 fn ten_words_lines() -> usize
     ensures { λ r. ⌜ r ≡ 2 ⌝ }
 {
@@ -177,7 +177,7 @@ fn show_each(l: Lines) -> Lines
     l
 }
 
-// The whole number of 256ths, and the bits. A line is no NaN and lies well within these numbers.
+// The whole number of 256ths, and the bits. 256 times a line lies within 64 bits; the tests are for doubles that are no lines.
 fn show_line(text: &[u8], line: f64) -> f64
     ensures { λ r. ⌜ r ≡ line ⌝ }
 {

@@ -1,5 +1,5 @@
 // Runs lists of calls and prints what comes: the answer, every number of the lent buffer, the chart after the list, and its lines. A
-// function that runs several lists answers how many.
+// function that runs several lists answers how many; `lists_run` how many its last part ran.
 use crate::around;
 use crate::drawn::chart_of_runs;
 use crate::drawn::show_drawing;

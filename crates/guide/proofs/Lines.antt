@@ -112,7 +112,7 @@ module _ (n : ℕ) (some : 1 ≤ n) where
       ∙ above-quotient (negℤ z) (negℤ k)
       ∙ same-order (negated (of-any z)) (times n (negated (of-any k))) (times n (of-any k)) (of-any z) (λ h. omega arith) (λ h. omega arith)
 
--- ---- the greatest deviation within m·S
+-- ---- the greatest whole d for which d / n is not more than m·S
 
 -- its square is the greatest that is at most m²·n·V / (n − 1)
 root-bound : (x c a : ℕ) → 1 ≤ c → ltb x (a * a * c) ≡ ltb (squareRoot (x / c)) a
@@ -127,7 +127,7 @@ root-bound x c a some =
     omega (arith, div-mul-le-self x c, mul-le-mul-right c few)))
 
 module _ (s : Sums) (two : 2 ≤ s .n) (natural : vOf s ≡ pos (natAbs (vOf s))) where
-  -- a deviation is more than m·S exactly if it is more than the greatest within
+  -- a deviation of d / n is more than m·S exactly if d is more than the greatest that is not
   pub exceeds-greatest : (m : ℕ) (d : ℤ) → exceeds m s d ≡ ltb (greatestDeviation m s) (natAbs d)
   unfolding greatestDeviation
   exceeds-greatest m d =

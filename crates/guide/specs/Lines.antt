@@ -1,5 +1,5 @@
 -- Document 01, "Lines for the plotter": lines by their whole numbers k of 256ths. A limit's line is worked out for any multiple m of S.
--- `proofs/Lines` has that each is what the paper asks for, by the sums of two words or more.
+-- `proofs/Lines` has that each is what the paper asks for, for the sums of two words or more.
 use mathlib.Core.Path.{_≡_}
 use mathlib.Core.Bool.{Bool, true, false, _&&_}
 use Prim.Native.Nat.{ℕ, _*_, _-_, _/_}
@@ -63,8 +63,8 @@ quotientUp z n = negℤ (quotientDown (negℤ z) n)
 unfoldable pub greatestDeviation : ℕ → Sums → ℕ
 greatestDeviation m s = squareRoot (m * m * (s .n * natAbs (vOf s)) / (s .n - 1))
 
--- with d the greatest deviation that is not more than (256·m)·S: the greatest k for which n·k is at most 256·T + d, and the least k for
--- which n·k is at least 256·T − d
+-- with d the greatest whole number for which d / n is not more than (256·m)·S: the greatest k for which n·k is at most 256·T + d, and
+-- the least k for which n·k is at least 256·T − d
 unfoldable pub upperLine : ℕ → Sums → ℤ
 upperLine m s = quotientDown (pos lineParts *ℤ s .t +ℤ pos (greatestDeviation (lineParts * m) s)) (s .n)
 

@@ -1,5 +1,5 @@
 -- Document 01, "The machine" and "Lists": the calls, what they answer, one step, and a run over a list of calls from an accepted start
--- (`built` of `Building` holds the start after building). Refusal 14 is not the machine's: it is decided of the chart that is handed in
+-- (`Lists` has the starts after building and reading). Refusal 14 is not the machine's: it is decided of the chart that is handed in
 -- (`chart/specs/Calls`). From a sound start every state of a run is sound (`proofs/Machine`), so 14 never applies to a chart along it.
 use mathlib.Core.Bool.{Bool}
 use mathlib.Core.List.{List, [], _∷_, _++_}

@@ -45,7 +45,7 @@ module _ (w : ℤ) (few : natAbs w ≤ 2 ^ 53) where
       })
       (λ t i. record { lowerWarning = false; upperWarning = upper-warning i; lowerControl = false; upperControl = upper-control i })
 
--- ---- any doubles: what the comparisons of a word, as the machine holds it, give together
+-- ---- any doubles: what the comparisons of a word, as the program holds it, give together
 
 abbrev heldWord : ℤ → ℤ
 heldWord w = toZ w16 (ofZ w16 w)

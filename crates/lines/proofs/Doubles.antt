@@ -1,4 +1,4 @@
--- The double k / 256, as the machine works it out of a line k.
+-- The double k / 256, as the program works it out of a line k.
 use mathlib.Core.Path.{_≡_, refl, ap, _∙_}
 use mathlib.Core.Bool.{false}
 use Prim.Native.Nat.{_≤_, _^_}
@@ -26,7 +26,7 @@ parts-double : ofInt binary64 (pos lineParts) ≡ fin false 1 (pos 8)
 unfolding ofInt round size units odd
 parts-double = refl
 
--- k as the machine holds it, divided by 256.0
+-- k as the program holds it, divided by 256.0
 module _ (k : ℤ) (h : SFits w64 k) (few : natAbs k ≤ 2 ^ 34) where
   pub cast-in-double : T (inFloat binary64 (toZ w64 (ofZ w64 k)))
   cast-in-double = rw (toZ-ofZ h) (in-double k (omega arith))

@@ -1,4 +1,4 @@
--- Lines as whole numbers of 256ths, as the machine works them out: 256·T and d fit 64 bits, and so does each line that they give.
+-- Lines as whole numbers of 256ths, as the program works them out: 256·T and d fit 64 bits, and so does each line that they give.
 use mathlib.Core.Path.{_≡_, ap, _∙_}
 use Prim.Native.Nat.{ℕ, _*_, _<_, _≤_, _^_}
 use native.Mathlib.Omega.{arith}
@@ -24,7 +24,7 @@ module _ (s : Sums) (b : Bounded s) where
   pub sum-parts : Held (pos lineParts *ℤ toZ w64 (ofZ w64 (s .t))) (pos lineParts *ℤ s .t)
   sum-parts = held (rw (toZ-ofZ (sum-fits s b))) (small-fits (omega (arith, parts-small)))
 
--- a line k of at most 2^34 parts, as the machine holds it
+-- a line k of at most 2^34 parts, as the program holds it
 are-parts : (k r : ℤ) → r ≡ k → natAbs k ≤ 2 ^ 34 → IsParts k (toZ w64 (ofZ w64 r))
 are-parts k r e h =
     let own : toZ w64 (ofZ w64 r) ≡ k = ap (λ (z : ℤ). toZ w64 (ofZ w64 z)) e ∙ toZ-ofZ (small-fits (omega arith)) in

@@ -1,4 +1,4 @@
--- Quotients rounded down and up, of numbers as the machine holds them. Of a negative number the quotient is given by `!z`. No quotient is
+-- Quotients rounded down and up, of numbers as the program holds them. Of a negative number the quotient is given by `!z`. No quotient is
 -- larger than the number that is divided.
 use mathlib.Core.Path.{_≡_, sym, ap, _∙_}
 use mathlib.Core.Bool.{true, false, false≢true}

@@ -79,7 +79,7 @@ pub record Drawable (s : Sums) : Type 0 where
   pub two : 2 ≤ s .n
   pub squares : s .q ≤ wordMost * wordMost * s .n
 
--- r is the line k, whose 256th a double holds
+-- r is k, and small enough that a double holds k / 256
 pub record IsParts (k r : ℤ) : Type 0 where
   pub same : r ≡ k
   pub small : natAbs r ≤ 2 ^ 34

@@ -173,7 +173,7 @@ fn lower_line(m: u8, s: Sums) -> f64
     line_of(lower_parts(m, s))
 }
 
-// k / 256: a double holds both, and their quotient.
+// k / 256: a double holds k, 256 and their quotient exactly.
 fn line_of(k: i64) -> f64
     requires { ⌜ natAbs k ≤ 2 ^ 34 ⌝ }
     ensures { λ r. ⌜ r ≡ doubleOf k ⌝ }

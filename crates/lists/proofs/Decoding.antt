@@ -58,7 +58,7 @@ module _ (numbers : List ℤ) (at : ℕ) (h : at + callSize ≤ length numbers) 
   unfolding callsIn callAt
   calls-next = rw five
 
--- the number at a place, as the machine holds it
+-- the number at a place, as the program holds it
 abbrev heldAt : List ℤ → ℕ → ℤ
 heldAt numbers i = toZ w64 (ofZ w64 (getD numbers i (pos 0)))
 

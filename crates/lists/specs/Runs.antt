@@ -1,4 +1,4 @@
--- What running an encoded list gives: the claim, or a refusal. Document 01 knows no encoded list, so what a list is declined for besides
+-- What running an encoded list gives: the claim, or a refusal. Document 01 has no encoded list, so what a list is declined for besides
 -- its start has no number of the paper's.
 use mathlib.Core.Path.{_≡_}
 use mathlib.Core.List.{List, [], _∷_}

@@ -1,6 +1,6 @@
 -- `store::reader::see_record` meets its contract: a walk of its MIR, by hand. The reader is taken apart, and `record_at` is called on the
 -- slice and the cursor. A reader is Copy, so what it owns is had twice: one copy is kept whole for the exit, and the other, field by field,
--- is what `record_at` asks. Of `record_at` the proof knows only that it meets its contract.
+-- is what `record_at` asks. Of `record_at` the proof uses only that it meets its contract.
 use mathlib.Core.Path.{_≡_, refl}
 use mathlib.Core.List.{[], _∷_}
 use lib.Dec.{T as Holds}

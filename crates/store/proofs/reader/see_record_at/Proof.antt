@@ -1,5 +1,5 @@
 -- `store::reader::see_record_at` meets its contract: a walk of its MIR, by hand. The reader that `reader_on` returns is held in a local,
--- and goes to `see_record`. Of each of the two the proof knows only that it meets its contract. MIR erases the lifetime in the type of a
+-- and goes to `see_record`. Of each of the two the proof uses only that it meets its contract. MIR erases the lifetime in the type of a
 -- local, so the machine value that `reader_on` returns is shown to have the struct's type at `erased`.
 use mathlib.Core.Path.{_≡_, refl, subst}
 use Prim.Native.Nat.{ℕ}
