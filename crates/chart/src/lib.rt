@@ -121,7 +121,7 @@ impl Chart {
     // The most words that a series holds.
     pub const SERIES_MOST: usize = 366;
 
-    // Lines are drawn in 256ths.
+    // Lines are whole numbers of 256ths.
     pub const LINE_PARTS: usize = 256;
 
     pub fn build(kind: u16, words: &[i16]) -> Built

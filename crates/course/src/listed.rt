@@ -1,9 +1,9 @@
 // Runs lists of calls and prints what comes: the answer, every number of the lent buffer, the chart after the list, and its lines. A
 // function that runs several lists answers how many; `lists_run` how many its last part ran.
 use crate::around;
-use crate::drawn::chart_of_runs;
-use crate::drawn::show_drawing;
-use crate::drawn::show_signed;
+use crate::chart_lines::chart_of_runs;
+use crate::chart_lines::show_lines_answer;
+use crate::chart_lines::show_signed;
 use crate::fill_front;
 use crate::show::show_decimal;
 use chart::Chart;
@@ -229,7 +229,7 @@ fn show_run(text: &[u8], r: Run, answers: &[i64]) -> Run
     show_counts(chart);
     io::write_all(STDOUT_FILENO, b"; ");
     let lines = r.lines;
-    show_drawing(lines);
+    show_lines_answer(lines);
     io::write_all(STDOUT_FILENO, b"\n");
     r
 }

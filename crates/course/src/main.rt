@@ -2,7 +2,7 @@
 // edges of the paper's rules, and prints each answer. What it prints is compared with the file `stdout`. No contract can say what is
 // printed; a function here answers the word or the chart that it prints, and one that runs several figures the chart that later figures
 // go on from, or the last.
-mod drawn;
+mod chart_lines;
 mod forms;
 mod listed;
 mod show;
@@ -10,7 +10,7 @@ mod stored;
 
 use chart::Built;
 use chart::Chart;
-use drawn::drawn_lines;
+use chart_lines::lines_of_charts;
 use forms::stored_forms;
 use libc::STDOUT_FILENO;
 use listed::lists_run;
@@ -72,7 +72,7 @@ fn main() {
     renewals(a, f, free);
     handed_in(a, one, side);
     stored_forms(a);
-    drawn_lines(a, k, z);
+    lines_of_charts(a, k, z);
     lists_run(a);
 }
 

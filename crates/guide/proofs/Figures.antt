@@ -20,7 +20,7 @@ use Rattle.guide.specs.Machine.{postRefusal, reanalysisRefusal, wordFor,
 use Rattle.guide.specs.SquareRoot.{rootWithin, squareRoot}
 use Rattle.guide.specs.Double.{doubleOf, partsIn}
 use Rattle.guide.specs.Lines.{quotientDown, quotientUp, greatestDeviation, upperLine, lowerLine, meanLine}
-use Rattle.guide.specs.Drawing.{linesOf}
+use Rattle.guide.specs.ChartLines.{linesOf}
 use Rattle.guide.specs.Figures.{Row, table}
 
 pub figures-hold : map (λ (r : Row). r .defined) table ≡ map (λ (r : Row). r .figure) table

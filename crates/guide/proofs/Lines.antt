@@ -1,7 +1,7 @@
 -- Laws of lines, for any multiple m of S and the sums of two words or more. A whole number of 256ths is above the exact limit exactly if
 -- it is above the upper line (`above-upper`), and below the exact limit exactly if it is below the lower line (`below-lower`). So the line
--- is the greatest not above, or the least not below, less than 1 away, and it judges a word as the limit does (`draws-upper`,
--- `draws-lower`, `draws-mean`, `draws-lines`, `judged-by-lines`).
+-- is the greatest not above, or the least not below, less than 1 away, and it judges a word as the limit does (`upper-double`,
+-- `lower-double`, `mean-double`, `line-doubles`, `judged-by-lines`).
 use mathlib.Core.Path.{_≡_, refl, sym, ap, _∙_}
 use mathlib.Core.Bool.{Bool, true, false, _&&_, false≢true}
 use mathlib.Core.List.{List, [], _∷_}
@@ -22,8 +22,8 @@ use Rattle.guide.specs.AllOf.{allOf}
 use Rattle.guide.specs.Building.{allInRange}
 use Rattle.guide.specs.SquareRoot.{squareRoot}
 use Rattle.guide.specs.Double.{Denotes, doubleOf, bitsOf, partsIn}
-use Rattle.guide.specs.Drawing.{Lines, duplicate, twoSided, linesOf, beyondEach, aboveLine, belowLine, beyondBy, beyondLines}
-use Rattle.guide.specs.Drawing.{IsLineDouble, DrawsUpper, DrawsLower, DrawsMean, Draws}
+use Rattle.guide.specs.ChartLines.{Lines, duplicate, twoSided, linesOf, beyondEach, aboveLine, belowLine, beyondBy, beyondLines}
+use Rattle.guide.specs.ChartLines.{IsLineDouble, IsUpperDouble, IsLowerDouble, IsMeanDouble, AreLineDoubles}
 use Rattle.guide.specs.Lines.{partsDeviation, partsAboveMean, partsAbove, partsBelow, IsGreatestNot, IsLeastNot}
 use Rattle.guide.specs.Lines.{IsUpperLine, IsLowerLine, IsMeanLine, quotientDown, quotientUp, greatestDeviation}
 use Rattle.guide.specs.Lines.{upperLine, lowerLine, meanLine}
@@ -235,7 +235,7 @@ module _ (s : Sums) (natural : vOf s ≡ pos (natAbs (vOf s))) where
   unfolding partsBelow below
   word-below m w = λ i. word-down w i && word-exceeds m w i
 
--- ---- the lines, drawn
+-- ---- the doubles of the lines
 
 -- less than 1 away
 close-above : {test : ℤ → Bool} (k : ℤ) → ((j : ℤ) → test j ≡ ltZ k j) → test (k +ℤ pos 1) ≡ true
@@ -258,9 +258,9 @@ line-double k =
     }
 
 module _ (s : Sums) (two : 2 ≤ s .n) (natural : vOf s ≡ pos (natAbs (vOf s))) where
-  pub draws-upper : (m : ℕ) → DrawsUpper m s (doubleOf (upperLine m s))
+  pub upper-double : (m : ℕ) → IsUpperDouble m s (doubleOf (upperLine m s))
   unfolding aboveLine
-  draws-upper m =
+  upper-double m =
       let k = upperLine m s in
       let is = above-upper s two natural m in
       record {
@@ -271,9 +271,9 @@ module _ (s : Sums) (two : 2 ≤ s .n) (natural : vOf s ≡ pos (natAbs (vOf s))
             ap (λ (j : ℤ). ltZ j (pos lineParts *ℤ w)) (parts-of-double k) ∙ sym (is (pos lineParts *ℤ w)) ∙ word-above s natural m w;
       }
 
-  pub draws-lower : (m : ℕ) → DrawsLower m s (doubleOf (lowerLine m s))
+  pub lower-double : (m : ℕ) → IsLowerDouble m s (doubleOf (lowerLine m s))
   unfolding belowLine
-  draws-lower m =
+  lower-double m =
       let k = lowerLine m s in
       let is = below-lower s two natural m in
       record {
@@ -283,8 +283,8 @@ module _ (s : Sums) (two : 2 ≤ s .n) (natural : vOf s ≡ pos (natAbs (vOf s))
         judges = λ w. ap (ltZ (pos lineParts *ℤ w)) (parts-of-double k) ∙ sym (is (pos lineParts *ℤ w)) ∙ word-below s natural m w;
       }
 
-pub draws-mean : (s : Sums) → 1 ≤ s .n → DrawsMean s (doubleOf (meanLine s))
-draws-mean s some =
+pub mean-double : (s : Sums) → 1 ≤ s .n → IsMeanDouble s (doubleOf (meanLine s))
+mean-double s some =
     let k = meanLine s in
     let is = above-mean s some in
     record {
@@ -296,37 +296,38 @@ draws-mean s some =
 -- ---- all lines of a chart
 
 module _ (limits : Limits) (two : 2 ≤ limits .sums .n) (natural : vOf (limits .sums) ≡ pos (natAbs (vOf (limits .sums)))) where
-  pub draws-lines : Draws limits (linesOf limits)
+  pub line-doubles : AreLineDoubles limits (linesOf limits)
   unfolding linesOf
-  draws-lines =
+  line-doubles =
       let s = limits .sums in
-      choose-ind (Draws limits) (hasLower (limits .kind)) _ _
+      choose-ind (AreLineDoubles limits) (hasLower (limits .kind)) _ _
       (λ t. record {
         kind = t;
-        of-mean = draws-mean s (omega arith);
-        of-lower-warning = draws-lower s two natural warningMultiple;
-        of-upper-warning = draws-upper s two natural warningMultiple;
-        of-lower-control = draws-lower s two natural controlMultiple;
-        of-upper-control = draws-upper s two natural controlMultiple;
+        of-mean = mean-double s (omega arith);
+        of-lower-warning = lower-double s two natural warningMultiple;
+        of-upper-warning = upper-double s two natural warningMultiple;
+        of-lower-control = lower-double s two natural controlMultiple;
+        of-upper-control = upper-double s two natural controlMultiple;
       })
       (λ t. record {
         kind = t;
-        of-mean = draws-mean s (omega arith);
-        of-upper-warning = draws-upper s two natural warningMultiple;
-        of-upper-control = draws-upper s two natural controlMultiple;
+        of-mean = mean-double s (omega arith);
+        of-upper-warning = upper-double s two natural warningMultiple;
+        of-upper-control = upper-double s two natural controlMultiple;
       })
 
--- lines that are drawn so judge every word as the limits do
-pub judged-by-drawn : (limits : Limits) (lines : Lines) → Draws limits lines → (w : ℤ) → beyondLines lines w ≡ beyondEach limits w
+-- such doubles judge every word as the limits do
+pub judged-by-doubles : (limits : Limits) (lines : Lines) → AreLineDoubles limits lines → (w : ℤ)
+    → beyondLines lines w ≡ beyondEach limits w
 unfolding beyondLines beyondBy beyondEach beyondUpper beyondLower
-judged-by-drawn limits (duplicate mean upperWarning upperControl) d w =
+judged-by-doubles limits (duplicate mean upperWarning upperControl) d w =
     λ i. record {
       lowerWarning = ap (λ (t : Bool). t && below warningMultiple (limits .sums) w) (sym (d .kind)) i;
       upperWarning = d .of-upper-warning .judges w i;
       lowerControl = ap (λ (t : Bool). t && below controlMultiple (limits .sums) w) (sym (d .kind)) i;
       upperControl = d .of-upper-control .judges w i;
     }
-judged-by-drawn limits (twoSided mean lowerWarning upperWarning lowerControl upperControl) d w =
+judged-by-doubles limits (twoSided mean lowerWarning upperWarning lowerControl upperControl) d w =
     λ i. record {
       lowerWarning = (d .of-lower-warning .judges w ∙ ap (λ (t : Bool). t && below warningMultiple (limits .sums) w) (sym (d .kind))) i;
       upperWarning = d .of-upper-warning .judges w i;
@@ -336,7 +337,7 @@ judged-by-drawn limits (twoSided mean lowerWarning upperWarning lowerControl upp
 
 pub judged-by-lines : (limits : Limits) (w : ℤ) → 2 ≤ limits .sums .n → vOf (limits .sums) ≡ pos (natAbs (vOf (limits .sums)))
     → beyondLines (linesOf limits) w ≡ beyondEach limits w
-judged-by-lines limits w two natural = judged-by-drawn limits (linesOf limits) (draws-lines limits two natural) w
+judged-by-lines limits w two natural = judged-by-doubles limits (linesOf limits) (line-doubles limits two natural) w
 
 -- ---- the squares of words in range
 

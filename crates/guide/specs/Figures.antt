@@ -12,7 +12,7 @@ use Rattle.guide.specs.Building as build
 use Rattle.guide.specs.Verdict.{sideTest}
 use Rattle.guide.specs.Machine as machine
 use Rattle.guide.specs.Double.{partsIn}
-use Rattle.guide.specs.Drawing.{Lines, duplicate, twoSided, linesOf}
+use Rattle.guide.specs.ChartLines.{Lines, duplicate, twoSided, linesOf}
 
 pub record Row : Type 0 where
   pub defined : List ℤ

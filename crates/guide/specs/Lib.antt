@@ -19,6 +19,6 @@ pub mod Reading
 pub mod SquareRoot
 pub mod Double
 pub mod Lines
-pub mod Drawing
+pub mod ChartLines
 pub mod Lists
 pub mod Figures

@@ -11,7 +11,7 @@ use Rattle.guide.specs.Kind.{hasLower}
 use Rattle.guide.specs.Limits.{Limits, controlMultiple, warningMultiple}
 use Rattle.guide.specs.Double.{doubleOf}
 use Rattle.guide.specs.Lines.{upperLine, lowerLine}
-use Rattle.guide.specs.Drawing.{linesOf, aboveLine, belowLine, beyondBy, beyondLines}
+use Rattle.guide.specs.ChartLines.{linesOf, aboveLine, belowLine, beyondBy, beyondLines}
 use Rattle.guide.proofs.Choice.{choose-ind}
 use Rattle.guide.proofs.Double.{above-is, below-is, double-denotes, parts-of-double}
 use Rattle.lines.specs.declared.Lines.{Lines}

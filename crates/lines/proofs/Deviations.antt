@@ -12,12 +12,12 @@ use Rattle.guide.specs.Lines.{greatestDeviation}
 use Rattle.limits.specs.declared.Sums.{Sums}
 use Rattle.limits.specs.Sums.{sumsSay}
 use Rattle.limits.proofs.Spread.{v-is}
-use Rattle.lines.specs.Lines.{Drawable}
+use Rattle.lines.specs.Lines.{HasLines}
 
 pub square-small : (m : ℕ) → m ≤ 3 → lineParts * m * (lineParts * m) ≤ lineParts * 3 * (lineParts * 3)
 square-small m few = let h : lineParts * m ≤ lineParts * 3 = omega arith in mul-le-mul h h
 
-module _ (s : Sums) (d : Drawable s) (v : ℕ) (e : pos v ≡ vOf (sumsSay s)) where
+module _ (s : Sums) (d : HasLines s) (v : ℕ) (e : pos v ≡ vOf (sumsSay s)) where
   v-small : v ≤ baseMost * (wordMost * wordMost * baseMost)
   v-small =
       let q : s .q ≤ wordMost * wordMost * baseMost = omega (arith, d .squares, d .bounded .few) in

@@ -4,4 +4,4 @@ mod Deviations
 mod LineParts
 mod Doubles
 pub mod Comparing
-pub mod Drawing
+pub mod ChartLines

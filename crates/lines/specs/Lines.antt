@@ -7,8 +7,8 @@ use lib.Ieee.{Float, lt, ofInt, binary64}
 use Rattle.guide.specs.Choice.{require}
 use Rattle.guide.specs.Kind.{wordMost}
 use Rattle.guide.specs.State.{limitsFor}
-use Rattle.guide.specs.Drawing.{DrawingAnswer, drawn, refused, linesOf, beyondEach, beyondBy}
-use Rattle.guide.specs.Drawing as guide
+use Rattle.guide.specs.ChartLines.{ChartLinesAnswer, linesGiven, refused, linesOf, beyondEach, beyondBy}
+use Rattle.guide.specs.ChartLines as guide
 use Rattle.limits.specs.declared.Sums.{Sums}
 use Rattle.limits.specs.Sums.{Bounded}
 use Rattle.chart.specs.declared.Chart.{Chart}
@@ -29,9 +29,9 @@ unfoldable pub linesSay : Lines → guide.Lines
 linesSay (lines.Duplicate mean upperWarning upperControl) = guide.duplicate mean upperWarning upperControl
 linesSay (lines.TwoSided l) = guide.twoSided (l .mean) (l .«lower_warning») (l .«upper_warning») (l .«lower_control») (l .«upper_control»)
 
-unfoldable pub drawingSays : LinesAnswer → DrawingAnswer
-drawingSays (answer.Drawn l) = drawn (linesSay l)
-drawingSays (answer.Refused n) = refused n
+unfoldable pub linesAnswerSays : LinesAnswer → ChartLinesAnswer
+linesAnswerSays (answer.Done l) = linesGiven (linesSay l)
+linesAnswerSays (answer.Refused n) = refused n
 
 unfoldable pub beyondSays : BeyondEach → guide.BeyondEach
 beyondSays b =
@@ -53,8 +53,8 @@ againstSays (against.Refused n) = declined n
 
 -- ---- what the calls answer: "lines 14"
 
-unfoldable pub answerToLines : Chart → DrawingAnswer
-answerToLines c = require (soundChart c) (refused 14) (drawn (linesOf (limitsFor (stateOf c))))
+unfoldable pub answerToLines : Chart → ChartLinesAnswer
+answerToLines c = require (soundChart c) (refused 14) (linesGiven (linesOf (limitsFor (stateOf c))))
 
 -- a word against the lines, by the exact limits
 unfoldable pub answerToAgainst : Chart → ℤ → AgainstSaid
@@ -74,7 +74,7 @@ floatBeyond lines w = beyondBy floatAbove floatBelow lines w
 -- ---- what the functions within ask and give
 
 -- the sums of two words or more whose squares are together no more than those of words in range: (256·3)²·n·V then fits 64 bits
-pub record Drawable (s : Sums) : Type 0 where
+pub record HasLines (s : Sums) : Type 0 where
   pub bounded : Bounded s
   pub two : 2 ≤ s .n
   pub squares : s .q ≤ wordMost * wordMost * s .n

@@ -20,10 +20,10 @@ ghost use Prim.Native.Nat.{_≤_, _^_};
 ghost use lib.IntN.{natAbs};
 ghost use Rattle.guide.specs.Double.{doubleOf};
 ghost use Rattle.guide.specs.Lines as guide;
-ghost use Rattle.guide.specs.Drawing.{linesOf};
+ghost use Rattle.guide.specs.ChartLines.{linesOf};
 ghost use Rattle.limits.specs.Sums.{sumsSay, limitsSay};
 ghost use Rattle.lines.specs.Lines.{beyondSays, floatAbove, floatBelow, floatBeyond};
-ghost use Rattle.lines.specs.Lines.{Drawable, linesSay, drawingSays, againstSays, answerToLines, answerToAgainst};
+ghost use Rattle.lines.specs.Lines.{HasLines, linesSay, linesAnswerSays, againstSays, answerToLines, answerToAgainst};
 
 pub struct TwoSidedLines {
     pub mean: f64,
@@ -44,7 +44,7 @@ pub enum Lines {
 }
 
 pub enum LinesAnswer {
-    Drawn(Lines),
+    Done(Lines),
     Refused(u16),
 }
 
@@ -63,7 +63,7 @@ pub enum AgainstAnswer {
 
 // The lines of a chart.
 pub fn lines_of(chart: Chart) -> LinesAnswer
-    ensures { λ r. ⌜ drawingSays r ≡ answerToLines chart ⌝ }
+    ensures { λ r. ⌜ linesAnswerSays r ≡ answerToLines chart ⌝ }
 {
     if !chart.sound() {
         return LinesAnswer::Refused(14);
@@ -71,7 +71,7 @@ pub fn lines_of(chart: Chart) -> LinesAnswer
     let base = chart.base;
     let n = chart.base_len;
     let l = limits_of(chart.kind, &base[..n]);
-    LinesAnswer::Drawn(lines_by(l))
+    LinesAnswer::Done(lines_by(l))
 }
 
 // A word against the lines of a chart: the same answer as by the exact limits.
@@ -80,7 +80,7 @@ pub fn against_lines(chart: Chart, word: i16) -> AgainstAnswer
 {
     let answer = lines_of(chart);
     match answer {
-        LinesAnswer::Drawn(l) => AgainstAnswer::Done(beyond_lines(l, word)),
+        LinesAnswer::Done(l) => AgainstAnswer::Done(beyond_lines(l, word)),
         LinesAnswer::Refused(n) => AgainstAnswer::Refused(n),
     }
 }
@@ -125,7 +125,7 @@ fn below_line(line: f64, word: i16) -> bool
 // ---- the lines that limits give
 
 fn lines_by(l: Limits) -> Lines
-    requires { ⌜ Drawable (l .sums) ⌝ }
+    requires { ⌜ HasLines (l .sums) ⌝ }
     ensures { λ r. ⌜ linesSay r ≡ linesOf (limitsSay l) ⌝ }
 {
     let s = l.sums;
@@ -151,7 +151,7 @@ fn lines_by(l: Limits) -> Lines
 }
 
 fn mean_line(s: Sums) -> f64
-    requires { ⌜ Drawable s ⌝ }
+    requires { ⌜ HasLines s ⌝ }
     ensures { λ r. ⌜ r ≡ doubleOf (guide.meanLine (sumsSay s)) ⌝ }
 {
     line_of(mean_parts(s))
@@ -159,7 +159,7 @@ fn mean_line(s: Sums) -> f64
 
 // The line of the mean + m·S.
 fn upper_line(m: u8, s: Sums) -> f64
-    requires { ⌜ (m ≤ 3) × Drawable s ⌝ }
+    requires { ⌜ (m ≤ 3) × HasLines s ⌝ }
     ensures { λ r. ⌜ r ≡ doubleOf (guide.upperLine m (sumsSay s)) ⌝ }
 {
     line_of(upper_parts(m, s))
@@ -167,7 +167,7 @@ fn upper_line(m: u8, s: Sums) -> f64
 
 // The line of the mean − m·S.
 fn lower_line(m: u8, s: Sums) -> f64
-    requires { ⌜ (m ≤ 3) × Drawable s ⌝ }
+    requires { ⌜ (m ≤ 3) × HasLines s ⌝ }
     ensures { λ r. ⌜ r ≡ doubleOf (guide.lowerLine m (sumsSay s)) ⌝ }
 {
     line_of(lower_parts(m, s))

@@ -10,11 +10,11 @@ ghost use Rattle.guide.specs.Sizes.{lineParts};
 ghost use Rattle.guide.specs.SquareRoot.{squareRoot};
 ghost use Rattle.guide.specs.Lines as guide;
 ghost use Rattle.limits.specs.Sums.{Bounded, sumsSay};
-ghost use Rattle.lines.specs.Lines.{Drawable, IsParts};
+ghost use Rattle.lines.specs.Lines.{HasLines, IsParts};
 
 // The mean, rounded down.
 pub fn mean_parts(s: Sums) -> i64
-    requires { ⌜ Drawable s ⌝ }
+    requires { ⌜ HasLines s ⌝ }
     ensures { λ r. ⌜ IsParts (guide.meanLine (sumsSay s)) r ⌝ }
 {
     quotient_down(sum_parts(s), s.n)
@@ -22,7 +22,7 @@ pub fn mean_parts(s: Sums) -> i64
 
 // The mean + m·S, rounded down.
 pub fn upper_parts(m: u8, s: Sums) -> i64
-    requires { ⌜ (m ≤ 3) × Drawable s ⌝ }
+    requires { ⌜ (m ≤ 3) × HasLines s ⌝ }
     ensures { λ r. ⌜ IsParts (guide.upperLine m (sumsSay s)) r ⌝ }
 {
     let t = sum_parts(s);
@@ -32,7 +32,7 @@ pub fn upper_parts(m: u8, s: Sums) -> i64
 
 // The mean − m·S, rounded up.
 pub fn lower_parts(m: u8, s: Sums) -> i64
-    requires { ⌜ (m ≤ 3) × Drawable s ⌝ }
+    requires { ⌜ (m ≤ 3) × HasLines s ⌝ }
     ensures { λ r. ⌜ IsParts (guide.lowerLine m (sumsSay s)) r ⌝ }
 {
     let t = sum_parts(s);
@@ -50,7 +50,7 @@ fn sum_parts(s: Sums) -> i64
 
 // The greatest whole d for which d / n is not more than 256·m·S. S itself is never rounded.
 fn deviation_parts(m: u8, s: Sums) -> u32
-    requires { ⌜ (m ≤ 3) × Drawable s ⌝ }
+    requires { ⌜ (m ≤ 3) × HasLines s ⌝ }
     ensures { λ r. ⌜ r ≡ guide.greatestDeviation (lineParts * m) (sumsSay s) ⌝ }
 {
     let n = s.n;

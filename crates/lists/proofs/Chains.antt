@@ -36,7 +36,7 @@ use Rattle.store.specs.declared.ReadChart.{ReadChart}
 use Rattle.store.specs.Store.{chartAfterReading}
 use Rattle.store.proofs.read.Reads as read-reads
 use Rattle.lines.specs.declared.LinesAnswer.{LinesAnswer}
-use Rattle.lines.specs.Lines.{drawingSays}
+use Rattle.lines.specs.Lines.{linesAnswerSays}
 use Rattle.lines.proofs.lines_of.Reads as lines-reads
 use Rattle.lists.specs.Claim.{Claim}
 use Rattle.lists.proofs.Claims.{claim-of-run}
@@ -94,9 +94,9 @@ chain-answers (first {calls = calls} p rest) =
 -- from the chart that stands for a sound state
 module _ (s : State) (start last : Chart) (calls : List Call) (said : List Answer) (lines : LinesAnswer)
     (chain : Chain start calls said last) (asked : lines-reads.Post tt (last, tt) lines (last, tt)) where
-  claim-from : sound s ≡ true → start ≡ chartOf s → Claim s calls last said (drawingSays lines)
+  claim-from : sound s ≡ true → start ≡ chartOf s → Claim s calls last said (linesAnswerSays lines)
   claim-from h is =
-      claim-of-run s calls last said (drawingSays lines) h
+      claim-of-run s calls last said (linesAnswerSays lines) h
       (chain-chart chain ∙ ap (λ (c : Chart). chartAfterCalls c calls) is)
       (chain-answers chain ∙ ap (λ (c : Chart). answersTo c calls) is) asked
 
@@ -106,7 +106,7 @@ pub claim-from-words : (κs : Lfts 1) (kind : ℕ) (words : RefT (List ℤ)) (b 
     → (s : State) → wordsStart kind (now words) ≡ begun s
     → (calls : List Call) (said : List Answer) (last : Chart) → Chain (b .chart) calls said last
     → (lines : LinesAnswer) → lines-reads.Post tt (last, tt) lines (last, tt)
-    → Claim s calls last said (drawingSays lines)
+    → Claim s calls last said (linesAnswerSays lines)
 claim-from-words κs kind words b builds s e calls said last chain lines asked =
     claim-from s (b .chart) last calls said lines chain asked (start-of-building-sound kind (now words) s e)
     (builds .chart ∙ chart-of-building (building kind (now words)) s e)
@@ -117,7 +117,7 @@ pub claim-from-bytes : (κs : Lfts 1) (bytes : RefT (List ℕ)) (r : ReadChart)
     → (s : State) → bytesStart (now bytes) ≡ begun s
     → (calls : List Call) (said : List Answer) (last : Chart) → Chain (r .chart) calls said last
     → (lines : LinesAnswer) → lines-reads.Post tt (last, tt) lines (last, tt)
-    → Claim s calls last said (drawingSays lines)
+    → Claim s calls last said (linesAnswerSays lines)
 claim-from-bytes κs bytes r is-read s e calls said last chain lines asked =
     claim-from s (r .chart) last calls said lines chain asked (start-of-reading-sound (now bytes) s e)
     (is-read .chart ∙ chart-of-reading (reading (now bytes)) s e)

@@ -11,9 +11,9 @@ use Rattle.guide.specs.State.{State, limitsFor}
 use Rattle.guide.specs.Limits.{limitsOf, sumsOf}
 use Rattle.guide.specs.Soundness.{sound}
 use Rattle.guide.specs.Machine.{Call, Answer, after}
-use Rattle.guide.specs.Drawing.{DrawingAnswer, drawn, linesOf, Draws}
+use Rattle.guide.specs.ChartLines.{ChartLinesAnswer, linesGiven, linesOf, AreLineDoubles}
 use Rattle.guide.proofs.Limits.{v-natural}
-use Rattle.guide.proofs.Lines.{draws-lines}
+use Rattle.guide.proofs.Lines.{line-doubles}
 use Rattle.chart.specs.declared.Chart.{Chart}
 use Rattle.chart.specs.Chart.{stateOf, chartOf}
 use Rattle.chart.specs.Soundness.{soundChart}
@@ -24,13 +24,13 @@ use Rattle.lines.specs.Lines.{answerToLines}
 use Rattle.lists.specs.Claim.{Claim}
 
 -- ten words or more have lines
-draws-of-state : (s : State) → baseLeast ≤ length (s .base) → Draws (limitsFor s) (linesOf (limitsFor s))
+doubles-of-state : (s : State) → baseLeast ≤ length (s .base) → AreLineDoubles (limitsFor s) (linesOf (limitsFor s))
 unfolding limitsFor limitsOf sumsOf
-draws-of-state s ten = draws-lines (limitsOf (s .kind) (s .base)) (omega arith) (v-natural (s .base))
+doubles-of-state s ten = line-doubles (limitsOf (s .kind) (s .base)) (omega arith) (v-natural (s .base))
 
-module _ (s : State) (calls : List Call) (chart : Chart) (said : List Answer) (drawing : DrawingAnswer)
+module _ (s : State) (calls : List Call) (chart : Chart) (said : List Answer) (lines : ChartLinesAnswer)
     (h : sound s ≡ true) (same : chart ≡ chartAfterCalls (chartOf s) calls) (says : said ≡ answersTo (chartOf s) calls)
-    (asked : drawing ≡ answerToLines chart) where
+    (asked : lines ≡ answerToLines chart) where
   last-chart : chart ≡ chartOf (after s calls)
   last-chart = same ∙ sound-runs s calls h .chart
 
@@ -40,11 +40,11 @@ module _ (s : State) (calls : List Call) (chart : Chart) (said : List Answer) (d
   last-sound : soundChart chart ≡ true
   last-sound = ap soundChart same ∙ sound-runs s calls h .stays-sound
 
-  lines-answered : drawing ≡ drawn (linesOf (limitsFor (after s calls)))
+  lines-answered : lines ≡ linesGiven (linesOf (limitsFor (after s calls)))
   unfolding answerToLines
   lines-answered = asked ∙ rw (last-sound, last-state)
 
-  pub claim-of-run : Claim s calls chart said drawing
+  pub claim-of-run : Claim s calls chart said lines
   claim-of-run =
       let ten = sound-runs s calls h .ten in
       record {
@@ -53,5 +53,5 @@ module _ (s : State) (calls : List Call) (chart : Chart) (said : List Answer) (d
         sound = last-sound;
         ten = rw last-state ten;
         answered = lines-answered;
-        draws = rw lines-answered (draws-of-state (after s calls) ten);
+        doubles = rw lines-answered (doubles-of-state (after s calls) ten);
       }

@@ -22,7 +22,7 @@ use Rattle.chart.specs.Soundness.{soundChart}
 use Rattle.chart.specs.Calls.{answersTo}
 use Rattle.chart.proofs.SoundCharts.{sound-chart-facts}
 use Rattle.lines.specs.declared.LinesAnswer.{LinesAnswer}
-use Rattle.lines.specs.Lines.{drawingSays, answerToLines}
+use Rattle.lines.specs.Lines.{linesAnswerSays, answerToLines}
 use Rattle.lists.specs.declared.Run.{Run}
 use Rattle.lists.specs.declared.Start.{Start}
 use Rattle.lists.specs.declared.RunAnswer.{RunAnswer}
@@ -42,8 +42,8 @@ zeros-not-sound =
     (λ t. absurd (false≢true (sound-facts (stateOf zeroChart) (sound-chart-facts zeroChart t .state) .is-kind)))
     (λ t. t)
 
-pub nothing-run : (answer : RunAnswer) (chart : Chart) (lines : LinesAnswer) → chart ≡ zeroChart → drawingSays lines ≡ answerToLines chart
-    → NothingRun (runSays answer) (record { chart = chart; answer = answer; lines = lines })
+pub nothing-run : (answer : RunAnswer) (chart : Chart) (lines : LinesAnswer) → chart ≡ zeroChart
+    → linesAnswerSays lines ≡ answerToLines chart → NothingRun (runSays answer) (record { chart = chart; answer = answer; lines = lines })
 unfolding answerToLines
 nothing-run answer chart lines zeros asked =
     record { says = refl; chart = zeros; lines = asked ∙ rw (zeros, zeros-not-sound) }
@@ -100,7 +100,7 @@ module _ (calls room out : List ℤ) (r : Run) where
       record {
         says = on .says;
         said = answersTo (chartOf s) (callsIn calls);
-        claim = claim-of-run s (callsIn calls) (r .chart) _ (drawingSays (r .lines)) h (on .chart) refl (on .lines);
+        claim = claim-of-run s (callsIn calls) (r .chart) _ (linesAnswerSays (r .lines)) h (on .chart) refl (on .lines);
         buffer = on .buffer;
       }
 

@@ -7,14 +7,14 @@ use lib.ListN.{length}
 use Rattle.guide.specs.Sizes.{baseLeast}
 use Rattle.guide.specs.State.{State, limitsFor}
 use Rattle.guide.specs.Machine.{Call, Answer, after, answers}
-use Rattle.guide.specs.Drawing.{DrawingAnswer, drawn, linesOf, DrawsAnswer}
+use Rattle.guide.specs.ChartLines.{ChartLinesAnswer, linesGiven, linesOf, AnswersLineDoubles}
 use Rattle.chart.specs.declared.Chart.{Chart}
 use Rattle.chart.specs.Chart.{stateOf, chartOf}
 use Rattle.chart.specs.Soundness.{soundChart}
 
 -- From the machine's start s, after the calls: the program has the chart `chart`, its calls answered `said`, and lines asked of that chart
--- `drawing`. "The machine is fed its start and what the calls bring, never the program's chart or answers."
-pub record Claim (s : State) (calls : List Call) (chart : Chart) (said : List Answer) (drawing : DrawingAnswer) : Type 0 where
+-- `lines`. "The machine is fed its start and what the calls bring, never the program's chart or answers."
+pub record Claim (s : State) (calls : List Call) (chart : Chart) (said : List Answer) (lines : ChartLinesAnswer) : Type 0 where
   -- chart kind, base, series, status and open verdict are the machine's, and unused places hold 0
   pub same-chart : chart ≡ chartOf (after s calls)
   -- every answer is the machine's
@@ -24,6 +24,6 @@ pub record Claim (s : State) (calls : List Call) (chart : Chart) (said : List An
   -- at least ten base words stand
   pub ten : baseLeast ≤ length (stateOf chart .base)
   -- lines are answered ..
-  pub answered : drawing ≡ drawn (linesOf (limitsFor (after s calls)))
+  pub answered : lines ≡ linesGiven (linesOf (limitsFor (after s calls)))
   -- .. each line's double is the paper's and within 1/256, and each limit's judges every word as the exact limit does
-  pub draws : DrawsAnswer (limitsFor (after s calls)) drawing
+  pub doubles : AnswersLineDoubles (limitsFor (after s calls)) lines

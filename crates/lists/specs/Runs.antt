@@ -10,12 +10,12 @@ use Rattle.guide.specs.Choice.{require}
 use Rattle.guide.specs.Sizes.{baseWanted}
 use Rattle.guide.specs.State.{State}
 use Rattle.guide.specs.Machine.{Call, Answer, renewed}
-use Rattle.guide.specs.Drawing.{refused}
+use Rattle.guide.specs.ChartLines.{refused}
 use Rattle.guide.specs.Lists as guide
 use Rattle.chart.specs.declared.Chart.{Chart}
 use Rattle.chart.specs.Chart.{chartOf, zeroChart}
 use Rattle.chart.specs.Calls.{nextChart, answerTo, chartAfterCalls, answersTo}
-use Rattle.lines.specs.Lines.{drawingSays, answerToLines}
+use Rattle.lines.specs.Lines.{linesAnswerSays, answerToLines}
 use Rattle.lists.specs.declared.Run.{Run}
 use Rattle.lists.specs.declared.Start.{Start}
 use Rattle.lists.specs.declared.RunAnswer.{RunAnswer}
@@ -59,14 +59,14 @@ machineStart (guide.declined n) = declines (startRefused n)
 pub record Ran (s : State) (calls : List Call) (before after : List ℤ) (r : Run) : Type 0 where
   pub says : runSays (r .answer) ≡ done
   pub said : List Answer
-  pub claim : Claim s calls (r .chart) said (drawingSays (r .lines))
+  pub claim : Claim s calls (r .chart) said (linesAnswerSays (r .lines))
   pub buffer : after ≡ withAnswers said before
 
 -- nothing is run: the chart of zeros, of which there are no lines
 pub record NothingRun (answer : RunSaid) (r : Run) : Type 0 where
   pub says : runSays (r .answer) ≡ answer
   pub chart : r .chart ≡ zeroChart
-  pub lines : drawingSays (r .lines) ≡ refused 14
+  pub lines : linesAnswerSays (r .lines) ≡ refused 14
 
 -- a list that is declined: every number of the buffer is as it was
 pub record Declined (answer : RunSaid) (before after : List ℤ) (r : Run) : Type 0 where
@@ -102,7 +102,7 @@ pub record RanOn (c : Chart) (calls before after : List ℤ) (r : Run) : Type 0 
   pub says : runSays (r .answer) ≡ done
   pub chart : r .chart ≡ chartAfterCalls c (callsIn calls)
   pub buffer : after ≡ withAnswers (answersTo c (callsIn calls)) before
-  pub lines : drawingSays (r .lines) ≡ answerToLines (r .chart)
+  pub lines : linesAnswerSays (r .lines) ≡ answerToLines (r .chart)
 
 abbrev pub startOn : Chart → ℕ → Outcome Chart
 startOn c zero = runs c

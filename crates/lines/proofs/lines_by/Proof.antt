@@ -1,7 +1,7 @@
 -- `lines::lines_by` meets its contract.
 use mathlib.Core.Path.{sym, _∙_}
 use borrow.Author.Needs.{needs}
-use Rattle.lines.proofs.Drawing.{duplicate-lines, two-sided-lines}
+use Rattle.lines.proofs.ChartLines.{duplicate-lines, two-sided-lines}
 use Rattle.lines.proofs.lines_by.Statement.{statement}
 use Rattle.lines.proofs.lines_by.Tie as tie
 

@@ -7,8 +7,8 @@ use Rattle.guide.proofs.Booleans.{answered-no, answered-yes}
 use Rattle.chart.specs.Chart.{stateOf}
 use Rattle.chart.specs.Soundness.{soundChart}
 use Rattle.chart.proofs.State.{Within, given, base-fits, base-count}
-use Rattle.lines.specs.Lines.{drawingSays}
-use Rattle.lines.proofs.Drawing.{drawable, lines-drawn, lines-declined}
+use Rattle.lines.specs.Lines.{linesAnswerSays}
+use Rattle.lines.proofs.ChartLines.{has-lines, lines-given, lines-declined}
 use Rattle.lines.proofs.lines_of.Statement.{statement}
 use Rattle.lines.proofs.lines_of.Tie as tie
 
@@ -16,7 +16,7 @@ sound-requires : tie.Need-sound-requires
 sound-requires c κs = search needs
 
 returns : tie.Need-returns
-unfolding drawingSays
+unfolding linesAnswerSays
 returns c = lines-declined (c .before .before .args .chart) (answered-no (c .before .sound .ensures) (c .if1 .taken))
 
 -- the chart is sound
@@ -44,14 +44,14 @@ lines-by-requires : tie.Need-lines-by-requires
 unfolding stateOf
 lines-by-requires c κs =
     let s = c .before .before .before in
-    drawable (s .before .before .args .chart) (sound-chart s) (c .limits-of .result) (c .limits-of .ensures)
+    has-lines (s .before .before .args .chart) (sound-chart s) (c .limits-of .result) (c .limits-of .ensures)
 
 returns-2 : tie.Need-returns-2
-unfolding drawingSays stateOf
+unfolding linesAnswerSays stateOf
 returns-2 c =
     let l = c .before .limits-of in
     let s = c .before .before .before .before in
-    lines-drawn (s .before .before .args .chart) (sound-chart s) (c .lines-by .result) (l .result) (l .ensures)
+    lines-given (s .before .before .args .chart) (sound-chart s) (c .lines-by .result) (l .result) (l .ensures)
     (c .lines-by .ensures)
 
 pub lines-of-spec : {M : Type 1} → statement M

@@ -1,9 +1,9 @@
--- `course::drawn::show_against` meets its contract. The loop's invariant: i is at most the number of words.
+-- `course::chart_lines::show_against` meets its contract. The loop's invariant: i is at most the number of words.
 use Prim.Native.Nat.{_-_, _≤_}
 use borrow.Author.Needs.{needs}
 use lib.ListN.{length}
-use Rattle.course.proofs.drawn.show_against.Statement.{statement}
-use Rattle.course.proofs.drawn.show_against.Tie as tie
+use Rattle.course.proofs.chart_lines.show_against.Statement.{statement}
+use Rattle.course.proofs.chart_lines.show_against.Tie as tie
 
 abbrev Inv-loop : tie.InvT-loop
 Inv-loop text chart words i₀ i = i ≤ length words

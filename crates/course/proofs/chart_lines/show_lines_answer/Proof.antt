@@ -1,8 +1,8 @@
--- `course::drawn::show_drawing` meets its contract.
+-- `course::chart_lines::show_lines_answer` meets its contract.
 use mathlib.Core.Path.{sym}
 use borrow.Author.Needs.{needs}
-use Rattle.course.proofs.drawn.show_drawing.Statement.{statement}
-use Rattle.course.proofs.drawn.show_drawing.Tie as tie
+use Rattle.course.proofs.chart_lines.show_lines_answer.Statement.{statement}
+use Rattle.course.proofs.chart_lines.show_lines_answer.Tie as tie
 
 enum-known-answer : tie.Need-enum-known-answer
 enum-known-answer c = search needs
@@ -22,8 +22,8 @@ returns c = sym (c .before .before .answer .given .1)
 returns-2 : tie.Need-returns-2
 returns-2 c = sym (c .before .before .answer2 .given .1)
 
-pub show-drawing-spec : {M : Type 1} → statement M
-show-drawing-spec =
+pub show-lines-answer-spec : {M : Type 1} → statement M
+show-lines-answer-spec =
     tie.close
     (tie.spec
     enum-known-answer

@@ -1,5 +1,5 @@
 -- The lines that limits give, and those of a chart. Of a sound chart the sums of its base are such that lines can be worked out from them
--- (`drawable`), and a word is beyond a line exactly if it is beyond the exact limit (`lines-compared`). One that is not sound is declined.
+-- (`has-lines`), and a word is beyond a line exactly if it is beyond the exact limit (`lines-compared`). One that is not sound is declined.
 use mathlib.Core.Path.{_≡_, ap, _∙_}
 use mathlib.Core.Bool.{true, false}
 use Prim.Native.Nat.{ℕ}
@@ -16,8 +16,8 @@ use Rattle.guide.specs.Limits.{sumsOf, limitsOf, sumOfSquares, controlMultiple,
 use Rattle.guide.specs.State.{limitsFor}
 use Rattle.guide.specs.Double.{doubleOf}
 use Rattle.guide.specs.Lines.{upperLine, lowerLine, meanLine}
-use Rattle.guide.specs.Drawing as guide
-use Rattle.guide.specs.Drawing.{drawn, refused, linesOf, beyondEach}
+use Rattle.guide.specs.ChartLines as guide
+use Rattle.guide.specs.ChartLines.{linesGiven, refused, linesOf, beyondEach}
 use Rattle.guide.proofs.Booleans.{by-test}
 use Rattle.guide.proofs.Held.{word-small}
 use Rattle.guide.proofs.Limits.{v-natural}
@@ -33,7 +33,7 @@ use Rattle.lines.specs.declared.Lines.{Lines}
 use Rattle.lines.specs.declared.BeyondEach.{BeyondEach}
 use Rattle.lines.specs.declared.Lines.the-variants.{Duplicate, TwoSided}
 use Rattle.lines.specs.Lines.{linesSay, beyondSays, compared, declined, answerToLines, answerToAgainst, floatBeyond}
-use Rattle.lines.specs.Lines.{Drawable}
+use Rattle.lines.specs.Lines.{HasLines}
 use Rattle.lines.proofs.Comparing.{float-beyond}
 
 -- ---- the lines that limits give, line by line
@@ -62,9 +62,9 @@ module _ (l : Limits) (mean upperWarning upperControl : Float)
 
 module _ (c : Chart) (t : soundChart c ≡ true) where
   -- lines can be worked out from the sums of its base
-  pub drawable : (l : Limits) → AreLimits (c .kind) (stateOf c .base) l → Drawable (l .sums)
+  pub has-lines : (l : Limits) → AreLimits (c .kind) (stateOf c .base) l → HasLines (l .sums)
   unfolding stateOf limitsOf sumsOf
-  drawable l are =
+  has-lines l are =
       let s = stateOf c in
       let facts = sound-facts s (sound-chart-facts c t .state) in
       let n : l .sums .n ≡ length (s .base) = ap (λ (x : limits.Limits). x .sums .n) (are .same) in
@@ -75,10 +75,10 @@ module _ (c : Chart) (t : soundChart c ≡ true) where
         squares = omega (arith, in-range-squares (s .kind) (s .base) (facts .base-in-range));
       }
 
-  pub lines-drawn : (lines : Lines) (l : Limits) → AreLimits (c .kind) (stateOf c .base) l → linesSay lines ≡ linesOf (limitsSay l)
-      → drawn (linesSay lines) ≡ answerToLines c
+  pub lines-given : (lines : Lines) (l : Limits) → AreLimits (c .kind) (stateOf c .base) l → linesSay lines ≡ linesOf (limitsSay l)
+      → linesGiven (linesSay lines) ≡ answerToLines c
   unfolding answerToLines limitsFor stateOf
-  lines-drawn lines l are e = rw t (ap drawn (e ∙ ap linesOf (are .same)))
+  lines-given lines l are e = rw t (ap linesGiven (e ∙ ap linesOf (are .same)))
 
   -- a word against its lines is the word against its limits
   judged-by-chart : (w : ℤ) → guide.beyondLines (linesOf (limitsFor (stateOf c))) w ≡ beyondEach (limitsFor (stateOf c)) w
@@ -97,24 +97,24 @@ lines-declined c t = rw t
 -- ---- a word against the lines that were answered
 
 module _ (c : Chart) (w : ℤ) where
-  pub lines-compared : (lines : Lines) (b : BeyondEach) → SFits w16 w → drawn (linesSay lines) ≡ answerToLines c
+  pub lines-compared : (lines : Lines) (b : BeyondEach) → SFits w16 w → linesGiven (linesSay lines) ≡ answerToLines c
       → beyondSays b ≡ floatBeyond (linesSay lines) (toZ w16 (ofZ w16 w)) → compared (beyondSays b) ≡ answerToAgainst c w
   unfolding answerToLines answerToAgainst
   lines-compared lines b fit e is =
       let limits = limitsFor (stateOf c) in
       by-test (soundChart c)
-      (λ t. let f : drawn (linesSay lines) ≡ drawn (linesOf limits) = rw t at e in
+      (λ t. let f : linesGiven (linesSay lines) ≡ linesGiven (linesOf limits) = rw t at e in
       let same : linesSay lines ≡ linesOf limits = cc in
       let held : beyondSays b ≡ floatBeyond (linesSay lines) w = rw (toZ-ofZ fit) at is in
       let few = word-small fit in
       rw t (ap compared (held ∙ ap (λ x. floatBeyond x w) same ∙ float-beyond w (omega arith) limits ∙ judged-by-chart c t w)))
-      (λ t. let f : drawn (linesSay lines) ≡ refused 14 = rw t at e in
+      (λ t. let f : linesGiven (linesSay lines) ≡ refused 14 = rw t at e in
       let z : _≡_ {A = ℕ} 0 1 = cc in absurd (omega arith))
 
   pub comparison-declined : (n : ℕ) → refused n ≡ answerToLines c → declined n ≡ answerToAgainst c w
   unfolding answerToLines answerToAgainst
   comparison-declined n e =
       by-test (soundChart c)
-      (λ t. let f : refused n ≡ drawn (linesOf (limitsFor (stateOf c))) = rw t at e in
+      (λ t. let f : refused n ≡ linesGiven (linesOf (limitsFor (stateOf c))) = rw t at e in
       let z : _≡_ {A = ℕ} 0 1 = cc in absurd (omega arith))
       (λ t. let f : refused n ≡ refused 14 = rw t at e in rw t (let same : n ≡ 14 = cc in ap declined same))

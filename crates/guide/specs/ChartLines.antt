@@ -19,9 +19,9 @@ pub data Lines : Type 0 where
   twoSided : (mean lowerWarning upperWarning lowerControl upperControl : Float) → Lines
 
 -- the lines, or the number for what is declined. 14 is decided of the chart that is handed in: `lines/specs/Lines`
-pub data DrawingAnswer : Type 0 where
-  drawn : Lines → DrawingAnswer
-  refused : ℕ → DrawingAnswer
+pub data ChartLinesAnswer : Type 0 where
+  linesGiven : Lines → ChartLinesAnswer
+  refused : ℕ → ChartLinesAnswer
 
 -- the lines that limits give
 unfoldable pub linesOf : Limits → Lines
@@ -84,7 +84,7 @@ beyondBy above below (twoSided mean lowerWarning upperWarning lowerControl upper
 unfoldable pub beyondLines : Lines → ℤ → BeyondEach
 beyondLines lines w = beyondBy aboveLine belowLine lines w
 
--- ---- what demand 3 says of drawn lines, for the whole number k that is read off a double
+-- ---- what demand 3 says of the lines' doubles, for the whole number k that is read off each
 
 -- the double denotes k / 256, and its bits are those of k / 256
 pub record IsLineDouble (x : Float) : Type 0 where
@@ -94,46 +94,46 @@ pub record IsLineDouble (x : Float) : Type 0 where
 
 -- an upper limit: k is the greatest not above 256 times the exact limit, and less than 1 away from it; and any word w lies above the double
 -- exactly if it lies above the exact limit
-pub record DrawsUpper (m : ℕ) (s : Sums) (x : Float) : Type 0 where
+pub record IsUpperDouble (m : ℕ) (s : Sums) (x : Float) : Type 0 where
   pub double : IsLineDouble x
   pub line : IsUpperLine m s (partsIn x)
   pub close : partsAbove m s (partsIn x +ℤ pos 1) ≡ true
   pub judges : (w : ℤ) → aboveLine x w ≡ above m s w
 
 -- a lower limit: the least not below, and the like
-pub record DrawsLower (m : ℕ) (s : Sums) (x : Float) : Type 0 where
+pub record IsLowerDouble (m : ℕ) (s : Sums) (x : Float) : Type 0 where
   pub double : IsLineDouble x
   pub line : IsLowerLine m s (partsIn x)
   pub close : partsBelow m s (partsIn x -ℤ pos 1) ≡ true
   pub judges : (w : ℤ) → belowLine x w ≡ below m s w
 
 -- the mean line, by which no word is judged
-pub record DrawsMean (s : Sums) (x : Float) : Type 0 where
+pub record IsMeanDouble (s : Sums) (x : Float) : Type 0 where
   pub double : IsLineDouble x
   pub line : IsMeanLine s (partsIn x)
   pub close : partsAboveMean s (partsIn x +ℤ pos 1) ≡ true
 
 -- all lines that a chart with these limits has: kind 1 has three, the others five
-pub record DrawsDuplicate (limits : Limits) (mean upperWarning upperControl : Float) : Type 0 where
+pub record AreDuplicateDoubles (limits : Limits) (mean upperWarning upperControl : Float) : Type 0 where
   pub kind : hasLower (limits .kind) ≡ false
-  pub of-mean : DrawsMean (limits .sums) mean
-  pub of-upper-warning : DrawsUpper warningMultiple (limits .sums) upperWarning
-  pub of-upper-control : DrawsUpper controlMultiple (limits .sums) upperControl
+  pub of-mean : IsMeanDouble (limits .sums) mean
+  pub of-upper-warning : IsUpperDouble warningMultiple (limits .sums) upperWarning
+  pub of-upper-control : IsUpperDouble controlMultiple (limits .sums) upperControl
 
-pub record DrawsTwoSided (limits : Limits) (mean lowerWarning upperWarning lowerControl upperControl : Float) : Type 0 where
+pub record AreTwoSidedDoubles (limits : Limits) (mean lowerWarning upperWarning lowerControl upperControl : Float) : Type 0 where
   pub kind : hasLower (limits .kind) ≡ true
-  pub of-mean : DrawsMean (limits .sums) mean
-  pub of-lower-warning : DrawsLower warningMultiple (limits .sums) lowerWarning
-  pub of-upper-warning : DrawsUpper warningMultiple (limits .sums) upperWarning
-  pub of-lower-control : DrawsLower controlMultiple (limits .sums) lowerControl
-  pub of-upper-control : DrawsUpper controlMultiple (limits .sums) upperControl
+  pub of-mean : IsMeanDouble (limits .sums) mean
+  pub of-lower-warning : IsLowerDouble warningMultiple (limits .sums) lowerWarning
+  pub of-upper-warning : IsUpperDouble warningMultiple (limits .sums) upperWarning
+  pub of-lower-control : IsLowerDouble controlMultiple (limits .sums) lowerControl
+  pub of-upper-control : IsUpperDouble controlMultiple (limits .sums) upperControl
 
-abbrev pub Draws : Limits → Lines → Type 0
-Draws limits (duplicate mean upperWarning upperControl) = DrawsDuplicate limits mean upperWarning upperControl
-Draws limits (twoSided mean lowerWarning upperWarning lowerControl upperControl) =
-    DrawsTwoSided limits mean lowerWarning upperWarning lowerControl upperControl
+abbrev pub AreLineDoubles : Limits → Lines → Type 0
+AreLineDoubles limits (duplicate mean upperWarning upperControl) = AreDuplicateDoubles limits mean upperWarning upperControl
+AreLineDoubles limits (twoSided mean lowerWarning upperWarning lowerControl upperControl) =
+    AreTwoSidedDoubles limits mean lowerWarning upperWarning lowerControl upperControl
 
 -- the answer is lines, and these are so
-abbrev pub DrawsAnswer : Limits → DrawingAnswer → Type 0
-DrawsAnswer limits (drawn lines) = Draws limits lines
-DrawsAnswer limits (refused n) = ⊥
+abbrev pub AnswersLineDoubles : Limits → ChartLinesAnswer → Type 0
+AnswersLineDoubles limits (linesGiven lines) = AreLineDoubles limits lines
+AnswersLineDoubles limits (refused n) = ⊥

@@ -1,11 +1,11 @@
--- `course::drawn::show_word_against` meets its contract.
+-- `course::chart_lines::show_word_against` meets its contract.
 use mathlib.Core.Path.{_≡_, sym, ap, _∙_}
 use mathlib.Core.Logic.{⊎-elim}
 use mir.Facts.{toZ-ofZ}
 use Rattle.lines.specs.Lines.{againstSays, answerToAgainst}
 use borrow.Author.Needs.{needs}
-use Rattle.course.proofs.drawn.show_word_against.Statement.{statement}
-use Rattle.course.proofs.drawn.show_word_against.Tie as tie
+use Rattle.course.proofs.chart_lines.show_word_against.Statement.{statement}
+use Rattle.course.proofs.chart_lines.show_word_against.Tie as tie
 
 slice-aggregate-write-all : tie.Need-slice-aggregate-write-all
 slice-aggregate-write-all c = search needs

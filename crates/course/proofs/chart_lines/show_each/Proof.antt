@@ -1,8 +1,8 @@
--- `course::drawn::show_each` meets its contract.
+-- `course::chart_lines::show_each` meets its contract.
 use mathlib.Core.Path.{sym}
 use borrow.Author.Needs.{needs}
-use Rattle.course.proofs.drawn.show_each.Statement.{statement}
-use Rattle.course.proofs.drawn.show_each.Tie as tie
+use Rattle.course.proofs.chart_lines.show_each.Statement.{statement}
+use Rattle.course.proofs.chart_lines.show_each.Tie as tie
 
 enum-known-l : tie.Need-enum-known-l
 enum-known-l c = search needs

@@ -1,4 +1,4 @@
-// Draws the lines of charts, compares words with them, and prints what comes: each line by its whole number of 256ths and by its bits. A
+// Asks for the lines of charts, compares words with them, and prints what comes: each line by its whole number of 256ths and by its bits. A
 // function that does so for several charts answers how many words it compared with the last.
 use crate::chart_on;
 use crate::fill_front;
@@ -16,10 +16,10 @@ use lines::lines_of;
 ghost use mathlib.Core.Path.{_≡_};
 ghost use Prim.Native.Nat.{_+_, _≤_};
 ghost use lib.ListN.{length};
-ghost use Rattle.lines.specs.Lines.{drawingSays, againstSays, answerToLines, answerToAgainst};
+ghost use Rattle.lines.specs.Lines.{linesAnswerSays, againstSays, answerToLines, answerToAgainst};
 ghost use Rattle.course.specs.Course.{chartOn, runsOf};
 
-pub fn drawn_lines(a: Chart, k: Chart, z: Chart) -> usize
+pub fn lines_of_charts(a: Chart, k: Chart, z: Chart) -> usize
     ensures { λ r. ⌜ r ≡ 1 ⌝ }
 {
     io::write_all(STDOUT_FILENO, b"Lines\n");
@@ -128,22 +128,22 @@ pub fn chart_of_runs(kind: u16, a: i16, n: usize, b: i16, m: usize, c: i16, l: u
 }
 
 fn show_lines(text: &[u8], chart: Chart) -> LinesAnswer
-    ensures { λ r. ⌜ drawingSays r ≡ answerToLines chart ⌝ }
+    ensures { λ r. ⌜ linesAnswerSays r ≡ answerToLines chart ⌝ }
 {
     io::write_all(STDOUT_FILENO, text);
     io::write_all(STDOUT_FILENO, b", lines: ");
     let answer = lines_of(chart);
-    show_drawing(answer);
+    show_lines_answer(answer);
     io::write_all(STDOUT_FILENO, b"\n");
     answer
 }
 
 // The lines, or the refusal.
-pub fn show_drawing(answer: LinesAnswer) -> LinesAnswer
+pub fn show_lines_answer(answer: LinesAnswer) -> LinesAnswer
     ensures { λ r. ⌜ r ≡ answer ⌝ }
 {
     match answer {
-        LinesAnswer::Drawn(l) => {
+        LinesAnswer::Done(l) => {
             show_each(l);
         }
         LinesAnswer::Refused(n) => {

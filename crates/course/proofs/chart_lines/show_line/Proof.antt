@@ -1,11 +1,11 @@
--- `course::drawn::show_line` meets its contract.
+-- `course::chart_lines::show_line` meets its contract.
 use mathlib.Core.Path.{sym, subst}
 use lib.Dec.{T}
 use lib.Ieee.{ofBits, neg}
 use Rattle.course.proofs.Floats.{equal-no-nan}
 use borrow.Author.Needs.{needs}
-use Rattle.course.proofs.drawn.show_line.Statement.{statement}
-use Rattle.course.proofs.drawn.show_line.Tie as tie
+use Rattle.course.proofs.chart_lines.show_line.Statement.{statement}
+use Rattle.course.proofs.chart_lines.show_line.Tie as tie
 
 write-all-requires : tie.Need-write-all-requires
 write-all-requires c κs = search needs

@@ -1,4 +1,4 @@
--- `course::drawn::chart_of_runs` meets its contract.
+-- `course::chart_lines::chart_of_runs` meets its contract.
 use mathlib.Core.Path.{_≡_, sym, ap, _∙_}
 use Prim.Native.Nat.{_+_}
 use mir.Facts.{toZ-ofZ}
@@ -6,8 +6,8 @@ use lib.ListN.{length, take}
 use Rattle.course.specs.Course.{runsOf, chartOn}
 use Rattle.course.proofs.Words.{runs-length, runs-filled}
 use borrow.Author.Needs.{needs}
-use Rattle.course.proofs.drawn.chart_of_runs.Statement.{statement}
-use Rattle.course.proofs.drawn.chart_of_runs.Tie as tie
+use Rattle.course.proofs.chart_lines.chart_of_runs.Statement.{statement}
+use Rattle.course.proofs.chart_lines.chart_of_runs.Tie as tie
 
 slice-aggregate-fill-front : tie.Need-slice-aggregate-fill-front
 slice-aggregate-fill-front c = search needs
