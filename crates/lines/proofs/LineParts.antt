@@ -18,7 +18,7 @@ use Rattle.lines.proofs.Quotients.{down-small, up-small}
 
 -- 256·T
 module _ (s : Sums) (b : Bounded s) where
-  parts-small : natAbs (pos lineParts *ℤ s .t) ≤ 2 ^ 28
+  pub parts-small : natAbs (pos lineParts *ℤ s .t) ≤ 2 ^ 28
   parts-small = omega (arith, magnitude-times lineParts (s .t), sum-small s b)
 
   pub sum-parts : Held (pos lineParts *ℤ toZ w64 (ofZ w64 (s .t))) (pos lineParts *ℤ s .t)
@@ -42,7 +42,7 @@ module _ (s : Sums) (b : Bounded s) (t : ℤ) (e : t ≡ pos lineParts *ℤ s .t
 
   -- 256·T + d and 256·T − d, of a d of 32 bits
   module _ (d : ℕ) (few : d < 2 ^ 32) where
-    plus-small : natAbs (pos lineParts *ℤ s .t +ℤ pos d) ≤ 2 ^ 34
+    pub plus-small : natAbs (pos lineParts *ℤ s .t +ℤ pos d) ≤ 2 ^ 34
     plus-small = omega (arith, parts-small s b, magnitude-plus (pos lineParts *ℤ s .t) (pos d))
 
     pub minus-small : natAbs (pos lineParts *ℤ s .t -ℤ pos d) ≤ 2 ^ 34

@@ -2,11 +2,16 @@
 use mathlib.Core.Path.{_≡_}
 use mathlib.Core.Bool.{Bool}
 use Prim.Native.Nat.{ℕ, _*_, _≤_, _^_}
-use lib.IntN.{ℤ, natAbs}
+use lib.Dec.{ltb}
+use lib.IntN.{ℤ, pos, natAbs}
 use lib.Ieee.{Float, lt, ofInt, binary64}
-use Rattle.guide.specs.Choice.{require}
+use Rattle.guide.specs.Choice.{choose, require}
 use Rattle.guide.specs.Kind.{wordMost}
+use Rattle.guide.specs.Limits as limits
+use Rattle.guide.specs.Limits.{controlMultiple, warningMultiple}
 use Rattle.guide.specs.State.{limitsFor}
+use Rattle.guide.specs.Double.{doubleOf, partsIn}
+use Rattle.guide.specs.Lines.{upperLine, lowerLine, meanLine}
 use Rattle.guide.specs.ChartLines.{ChartLinesAnswer, linesGiven, refused, linesOf, beyondEach, beyondBy}
 use Rattle.guide.specs.ChartLines as guide
 use Rattle.limits.specs.declared.Sums.{Sums}
@@ -70,6 +75,42 @@ floatBelow x w = lt (ofInt binary64 w) x
 
 unfoldable pub floatBeyond : guide.Lines → ℤ → guide.BeyondEach
 floatBeyond lines w = beyondBy floatAbove floatBelow lines w
+
+-- ---- the whole number k of 256ths that a line's double denotes
+
+-- k, where it is small enough for the program's numbers: below 2 ^ 63 in size. Otherwise 0
+unfoldable pub partsHeld : Float → ℤ
+partsHeld x = choose (ltb (natAbs (partsIn x)) (2 ^ 63)) (partsIn x) (pos 0)
+
+-- the whole numbers k of the lines that sums give, up to three times S, are at most 2 ^ 34 in size
+pub record AreSmallLines (s : limits.Sums) : Type 0 where
+  pub of-mean : natAbs (meanLine s) ≤ 2 ^ 34
+  pub of-upper : (m : ℕ) → m ≤ 3 → natAbs (upperLine m s) ≤ 2 ^ 34
+  pub of-lower : (m : ℕ) → m ≤ 3 → natAbs (lowerLine m s) ≤ 2 ^ 34
+
+-- x is the double of k, and k is held
+pub record IsHeldLine (k : ℤ) (x : Float) : Type 0 where
+  pub double : x ≡ doubleOf k
+  pub small : natAbs k ≤ 2 ^ 34
+  pub held : partsHeld x ≡ k
+
+-- all lines that these sums give: kind 1 has three, the others five
+pub record AreHeldDuplicate (s : limits.Sums) (mean upperWarning upperControl : Float) : Type 0 where
+  pub of-mean : IsHeldLine (meanLine s) mean
+  pub of-upper-warning : IsHeldLine (upperLine warningMultiple s) upperWarning
+  pub of-upper-control : IsHeldLine (upperLine controlMultiple s) upperControl
+
+pub record AreHeldTwoSided (s : limits.Sums) (mean lowerWarning upperWarning lowerControl upperControl : Float) : Type 0 where
+  pub of-mean : IsHeldLine (meanLine s) mean
+  pub of-lower-warning : IsHeldLine (lowerLine warningMultiple s) lowerWarning
+  pub of-upper-warning : IsHeldLine (upperLine warningMultiple s) upperWarning
+  pub of-lower-control : IsHeldLine (lowerLine controlMultiple s) lowerControl
+  pub of-upper-control : IsHeldLine (upperLine controlMultiple s) upperControl
+
+abbrev pub AreHeldLines : limits.Sums → guide.Lines → Type 0
+AreHeldLines s (guide.duplicate mean upperWarning upperControl) = AreHeldDuplicate s mean upperWarning upperControl
+AreHeldLines s (guide.twoSided mean lowerWarning upperWarning lowerControl upperControl) =
+    AreHeldTwoSided s mean lowerWarning upperWarning lowerControl upperControl
 
 -- ---- what the functions within ask and give
 

@@ -22,7 +22,7 @@ ghost use Rattle.guide.specs.Double.{doubleOf};
 ghost use Rattle.guide.specs.Lines as guide;
 ghost use Rattle.guide.specs.ChartLines.{linesOf};
 ghost use Rattle.limits.specs.Sums.{sumsSay, limitsSay};
-ghost use Rattle.lines.specs.Lines.{beyondSays, floatAbove, floatBelow, floatBeyond};
+ghost use Rattle.lines.specs.Lines.{beyondSays, floatAbove, floatBelow, floatBeyond, partsHeld};
 ghost use Rattle.lines.specs.Lines.{HasLines, linesSay, linesAnswerSays, againstSays, answerToLines, answerToAgainst};
 
 pub struct TwoSidedLines {
@@ -107,6 +107,19 @@ pub fn beyond_lines(lines: Lines, word: i16) -> BeyondEach
             upper_control: above_line(l.upper_control, word),
         },
     }
+}
+
+// The whole number k of 256ths that a line's double denotes. A double whose k does not fit 64 bits, which no line is, counts as 0.
+pub fn parts_in(line: f64) -> i64
+    ensures { λ r. ⌜ r ≡ partsHeld line ⌝ }
+{
+    let parts = line * 256.0;
+    if parts > -9223372036854775808.0 {
+        if parts < 9223372036854775808.0 {
+            return std::num::truncating_f64_to_i64(parts);
+        }
+    }
+    0
 }
 
 // A word on a line is not beyond it.

@@ -40,6 +40,9 @@ module _ (c : Chart) (before after : List ℕ) (n : ℕ) (w : Writes c before af
   unfolding writeSays answerToWrite writing
   facts = wrote-by (soundChart c) (hasRoom (stateOf c) before) (length (storedForm (stateOf c))) n (w .says)
 
+  pub written-sound : soundChart c ≡ true
+  written-sound = facts .0
+
   after-is : after ≡ storedForm (stateOf c) ++ drop (length (storedForm (stateOf c))) before
   unfolding bufferAfterWrite bufferAfter
   after-is = rw (facts .0, facts .1 .0) at (w .buffer)
@@ -53,7 +56,7 @@ module _ (c : Chart) (before after : List ℕ) (n : ℕ) (w : Writes c before af
   pub written-count : n ≡ length (take n after)
   written-count = sym (length-take-le n after written-fits)
 
-  written-form : take n after ≡ storedForm (stateOf c)
+  pub written-form : take n after ≡ storedForm (stateOf c)
   written-form = ap (take n) after-is ∙ take-at (storedForm (stateOf c)) _ n (sym (facts .1 .1))
 
   -- reading them gives the chart again

@@ -1,0 +1,10 @@
+-- The fields of a line, what is wrong with them, the words and the bytes in them, and the commands' names; what a line is; what a command
+-- replies.
+mod Fields
+mod FirstFault
+mod WordsPut
+mod Fronts
+mod NamesTried
+mod Lines
+mod Replying
+mod Writing

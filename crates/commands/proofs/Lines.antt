@@ -1,0 +1,101 @@
+-- Laws of the line that a text is: too long (`too-long`), passed over (`no-field`, `a-comment`), with a fault (`a-fault`) and without (`no-fault`); and
+-- of the line feed behind a reply (`line-fed`).
+use mathlib.Core.Path.{_≡_, refl, sym, ap, _∙_}
+use mathlib.Core.Bool.{Bool, true, false}
+use mathlib.Core.List.{List, [], _∷_, _++_}
+use Prim.Native.Nat.{ℕ, zero, suc, _-_, _≤_, _<_}
+use native.Mathlib.Omega.{arith}
+use borrow.Author.Tests.{lt-leb, le-leb, lt-ltb, le-ltb}
+use lib.ListN.{length, drop, getD}
+use lib.Seq.{drop-cons}
+use lib.Dec.{eqb}
+use Rattle.chart.specs.declared.Chart.{Chart}
+use Rattle.parsing.specs.Fields.{fieldsOf, between, IsFirstField}
+use Rattle.printing.specs.Output.{Puts}
+use Rattle.printing.proofs.Putting.{puts-then}
+use Rattle.replies.specs.Faults.{lineTooLong}
+use Rattle.commands.specs.declared.names.Name.{Name}
+use Rattle.commands.specs.declared.names.Name.the-variants as name
+use Rattle.commands.specs.Command.{Line, passedOver, faulty, lineMost, commandFor, faultFor, isComment, nameIn, namedLine, lineOf, lineIn}
+use Rattle.commands.specs.Reply.{replyToLine, answerToLine}
+use Rattle.commands.specs.Answers.{Answers, Replies, fieldsFrom}
+
+pub too-long : (text : List ℕ) → lineMost < length text → lineIn text ≡ faulty lineTooLong
+unfolding lineIn
+too-long text h = rw (lt-leb (length text) lineMost h)
+
+-- a fault, and none
+with-fault : (n : Name) (fields : List (List ℕ)) (fault : ℕ) → fault ≡ faultFor n fields → (fault ≡ 0 → ⊥)
+    → namedLine n fields ≡ faulty fault
+unfolding namedLine
+with-fault n fields zero e h = absurd (h refl)
+with-fault n fields (suc fault) e h = rw (← e)
+
+without-fault : (n : Name) (fields : List (List ℕ)) (fault : ℕ) → fault ≡ faultFor n fields → fault ≡ 0
+    → namedLine n fields ≡ commandFor n fields
+unfolding namedLine
+without-fault n fields fault e z = rw (← e, z)
+
+module _ (text : List ℕ) (start end : ℕ) (short : length text ≤ lineMost) (f : IsFirstField text start end) where
+  by-fields : lineIn text ≡ lineOf (fieldsOf text)
+  unfolding lineIn
+  by-fields = rw (le-leb (length text) lineMost short)
+
+  pub no-field : start ≡ end → lineIn text ≡ passedOver
+  unfolding lineOf
+  no-field e =
+      let none : fieldsOf text ≡ [] = rw (le-ltb start end (omega arith)) at (f .fields) in
+      by-fields ∙ ap lineOf none
+
+  module _ (some : start < end) where
+    found : fieldsOf text ≡ between start end text ∷ fieldsOf (drop end text)
+    found = rw (lt-ltb start end some) at (f .fields)
+
+    -- the field's first byte
+    begins : (b : ℕ) (rest : List ℕ) → drop start text ≡ b ∷ rest → isComment (between start end text) ≡ eqb b 35
+    begins b rest e =
+        let more : end - start ≡ suc (end - start - 1) = omega arith in
+        rw (e, more)
+
+    first-byte : isComment (between start end text) ≡ eqb (getD text start 0) 35
+    first-byte = begins (getD text start 0) (drop (suc start) text) (drop-cons text start 0 (omega (arith, f .within)))
+
+    pub a-comment : eqb (getD text start 0) 35 ≡ true → lineIn text ≡ passedOver
+    unfolding lineOf
+    a-comment e = by-fields ∙ ap lineOf found ∙ rw (first-byte, e)
+
+    -- a command, by its name and the fault of the fields behind it
+    module _ (e : eqb (getD text start 0) 35 ≡ false) (n : Name) (named : n ≡ nameIn (between start end text))
+        (fault : ℕ) (found-fault : fault ≡ faultFor n (fieldsOf (drop end text))) where
+      a-command : lineIn text ≡ namedLine n (fieldsOf (drop end text))
+      unfolding lineOf
+      a-command = by-fields ∙ ap lineOf found ∙ rw (first-byte, e, ← named)
+
+      pub a-fault : (fault ≡ 0 → ⊥) → lineIn text ≡ faulty fault
+      a-fault some-fault = a-command ∙ with-fault n (fieldsOf (drop end text)) fault found-fault some-fault
+
+      pub no-fault : fault ≡ 0 → lineIn text ≡ commandFor n (fieldsOf (drop end text))
+      no-fault none = a-command ∙ without-fault n (fieldsOf (drop end text)) fault found-fault none
+
+-- a line feed follows the reply to a command
+line-feed : (c : Chart) (n : Name) (fields : List (List ℕ))
+    → replyToLine c (commandFor n fields) ++ (10 ∷ []) ≡ answerToLine c (commandFor n fields)
+unfolding commandFor
+line-feed c name.Word fields = refl
+line-feed c name.Build fields = refl
+line-feed c name.Post fields = refl
+line-feed c name.Reanalyse fields = refl
+line-feed c name.Correct fields = refl
+line-feed c name.Renew fields = refl
+line-feed c name.Lines fields = refl
+line-feed c name.Write fields = refl
+line-feed c name.Read fields = refl
+line-feed c name.Show fields = refl
+line-feed c name.Other fields = refl
+
+pub line-fed : (c : Chart) (n : Name) (fields : List (List ℕ)) {next : Chart} {before between after : List ℕ} {middle size : ℕ}
+    → Replies c (commandFor n fields) before between (record { chart = next; size = middle })
+    → Puts between middle (10 ∷ []) after size
+    → Answers c (commandFor n fields) before after (record { chart = next; size = size })
+line-fed c n fields replies feed =
+    record { chart = replies .chart; text = rw (line-feed c n fields) at (puts-then (replies .text) feed) }

@@ -1,0 +1,86 @@
+-- Laws of what a command replies: a call on the chart (`replies-call`), building (`replies-build`) and reading (`replies-read`).
+use mathlib.Core.Path.{_≡_, refl, sym, ap, _∙_, subst}
+use mathlib.Core.List.{List}
+use Prim.Native.Nat.{ℕ}
+use native.Mathlib.Omega.{arith}
+use lib.IntN.{ℤ}
+use Rattle.guide.specs.Machine.{Call, Answer}
+use Rattle.guide.specs.Building.{BuildingAnswer, building}
+use Rattle.guide.specs.Building as guideBuilding
+use Rattle.guide.specs.Reading.{ReadingAnswer, reading}
+use Rattle.guide.specs.Reading as guideReading
+use Rattle.chart.specs.declared.Chart.{Chart}
+use Rattle.chart.specs.declared.BuildAnswer.{BuildAnswer}
+use Rattle.chart.specs.declared.BuildAnswer.the-variants as build
+use Rattle.chart.specs.declared.Built.{Built}
+use Rattle.chart.specs.Chart.{chartAfter, buildSays, Builds}
+use Rattle.chart.specs.Calls.{nextChart, answerTo, Gives}
+use Rattle.store.specs.declared.ReadAnswer.{ReadAnswer}
+use Rattle.store.specs.declared.ReadAnswer.the-variants as read
+use Rattle.store.specs.declared.ReadChart.{ReadChart}
+use Rattle.store.specs.Store.{readSays, chartAfterReading, IsRead}
+use Rattle.printing.specs.Output.{Puts}
+use Rattle.replies.specs.Texts.{answerText, buildingText, readingText}
+use Rattle.commands.specs.Command.{Command, asked}
+use Rattle.commands.specs.Command as command
+use Rattle.commands.specs.Reply.{chartBuilt, chartRead, replyTo, chartAfterCommand}
+use Rattle.commands.specs.Answers.{Replies, afterBuild, afterRead}
+
+-- ---- a call on the chart: what the call answers is replied, and its chart is handed on
+
+pub replies-call : (c : Chart) (k : Command) (call : Call) {next : Chart} {answer : Answer} {before after : List ℕ} {size : ℕ}
+    → replyTo c k ≡ answerText (answerTo c call) → chartAfterCommand c k ≡ nextChart c call
+    → Gives c call next answer → Puts before 0 (answerText answer) after size
+    → Replies c (asked k) before after (record { chart = next; size = size })
+replies-call c k call {before = before} {after = after} {size = size} text chart gives puts =
+    record {
+      chart = gives .chart ∙ sym chart;
+      text = subst (λ (x : List ℕ). Puts before 0 x after size) (ap answerText (gives .says) ∙ sym text) puts;
+    }
+
+-- ---- building and reading: "A refused `build` or `read` leaves the chart that was there"
+
+kept-build : (c built : Chart) (answer : BuildAnswer) (a : BuildingAnswer)
+    → built ≡ chartAfter a → buildSays built answer ≡ a → afterBuild c built answer ≡ chartBuilt c a
+unfolding chartAfter buildSays afterBuild
+kept-build c built (build.Done rounds removed) (guideBuilding.built s r m) chart says = chart
+kept-build c built (build.Done rounds removed) (guideBuilding.refused n) chart says =
+    let z : _≡_ {A = ℕ} 0 1 = cc in absurd (omega arith)
+kept-build c built (build.Refused n) (guideBuilding.built s r m) chart says =
+    let z : _≡_ {A = ℕ} 0 1 = cc in absurd (omega arith)
+kept-build c built (build.Refused n) (guideBuilding.refused m) chart says = refl
+
+-- building from a kind and words that are the same
+pub builds-same : {kind k : ℕ} {words ws : List ℤ} {r : Built} → kind ≡ k → words ≡ ws → Builds kind words r → Builds k ws r
+builds-same {k = k} {words = words} {r = r} e f builds =
+    subst (λ (x : List ℤ). Builds k x r) f (subst (λ (n : ℕ). Builds n words r) e builds)
+
+pub replies-build : (c : Chart) (kind : ℕ) (words : List ℤ) (r : Built) {next : Chart} {before after : List ℕ} {size : ℕ}
+    → Builds kind words r → next ≡ afterBuild c (r .chart) (r .answer)
+    → Puts before 0 (buildingText (buildSays (r .chart) (r .answer))) after size
+    → Replies c (asked (command.build kind words)) before after (record { chart = next; size = size })
+unfolding replyTo chartAfterCommand
+replies-build c kind words r {before = before} {after = after} {size = size} builds kept puts =
+    record {
+      chart = kept ∙ kept-build c (r .chart) (r .answer) (building kind words) (builds .chart) (builds .says);
+      text = subst (λ (a : BuildingAnswer). Puts before 0 (buildingText a) after size) (builds .says) puts;
+    }
+
+kept-read : (c given : Chart) (answer : ReadAnswer) (a : ReadingAnswer)
+    → given ≡ chartAfterReading a → readSays given answer ≡ a → afterRead c given answer ≡ chartRead c a
+unfolding chartAfterReading readSays afterRead
+kept-read c given read.Done (guideReading.taken s) chart says = chart
+kept-read c given read.Done (guideReading.refused n) chart says = let z : _≡_ {A = ℕ} 0 1 = cc in absurd (omega arith)
+kept-read c given (read.Refused n) (guideReading.taken s) chart says = let z : _≡_ {A = ℕ} 0 1 = cc in absurd (omega arith)
+kept-read c given (read.Refused n) (guideReading.refused m) chart says = refl
+
+pub replies-read : (c : Chart) (bytes : List ℕ) (r : ReadChart) {next : Chart} {before after : List ℕ} {size : ℕ}
+    → IsRead (reading bytes) r → next ≡ afterRead c (r .chart) (r .answer)
+    → Puts before 0 (readingText (readSays (r .chart) (r .answer))) after size
+    → Replies c (asked (command.read bytes)) before after (record { chart = next; size = size })
+unfolding replyTo chartAfterCommand
+replies-read c bytes r {before = before} {after = after} {size = size} is kept puts =
+    record {
+      chart = kept ∙ kept-read c (r .chart) (r .answer) (reading bytes) (is .chart) (is .says);
+      text = subst (λ (a : ReadingAnswer). Puts before 0 (readingText a) after size) (is .says) puts;
+    }

@@ -1,0 +1,76 @@
+-- What a command on a chart replies, as text, and the chart after it.
+use mathlib.Core.List.{List, [], _∷_, _++_}
+use Prim.Native.Nat.{ℕ}
+use Rattle.guide.specs.Choice.{require}
+use Rattle.guide.specs.Word.{wordAlone}
+use Rattle.guide.specs.Building.{BuildingAnswer, building}
+use Rattle.guide.specs.Building as guideBuilding
+use Rattle.guide.specs.Machine as machine
+use Rattle.guide.specs.StoredForm.{storedForm}
+use Rattle.guide.specs.Reading.{ReadingAnswer, reading}
+use Rattle.guide.specs.Reading as guideReading
+use Rattle.chart.specs.declared.Chart.{Chart}
+use Rattle.chart.specs.Chart.{stateOf, chartOf}
+use Rattle.chart.specs.Calls.{nextChart, answerTo}
+use Rattle.chart.specs.Soundness.{soundChart}
+use Rattle.lines.specs.Lines.{answerToLines}
+use Rattle.replies.specs.Faults.{faultText}
+use Rattle.replies.specs.Texts.{refusalText, formedText, buildingText, answerText, linesText, bytesText, readingText, stateText}
+use Rattle.commands.specs.Command.{Command, Line}
+use Rattle.commands.specs.Command as command
+
+-- ---- what a command replies
+
+unfoldable pub replyTo : Chart → Command → List ℕ
+replyTo chart (command.word kind a b c) = formedText (wordAlone kind a b c)
+replyTo chart (command.build kind words) = buildingText (building kind words)
+replyTo chart (command.post kind a b c) = answerText (answerTo chart (machine.post kind a b c))
+replyTo chart (command.reanalyse kind a b c) = answerText (answerTo chart (machine.reanalysis kind a b c))
+replyTo chart command.correct = answerText (answerTo chart machine.correction)
+replyTo chart command.renew = answerText (answerTo chart machine.renewal)
+replyTo chart command.lines = linesText (answerToLines chart)
+replyTo chart command.write = require (soundChart chart) (refusalText 14) (bytesText (storedForm (stateOf chart)))
+replyTo chart (command.read bytes) = readingText (reading bytes)
+replyTo chart command.show = stateText (stateOf chart)
+
+-- ---- the chart after it
+
+-- "A refused `build` or `read` leaves the chart that was there."
+abbrev pub chartBuilt : Chart → BuildingAnswer → Chart
+chartBuilt chart (guideBuilding.built s rounds removed) = chartOf s
+chartBuilt chart (guideBuilding.refused n) = chart
+
+abbrev pub chartRead : Chart → ReadingAnswer → Chart
+chartRead chart (guideReading.taken s) = chartOf s
+chartRead chart (guideReading.refused n) = chart
+
+unfoldable pub chartAfterCommand : Chart → Command → Chart
+chartAfterCommand chart (command.word kind a b c) = chart
+chartAfterCommand chart (command.build kind words) = chartBuilt chart (building kind words)
+chartAfterCommand chart (command.post kind a b c) = nextChart chart (machine.post kind a b c)
+chartAfterCommand chart (command.reanalyse kind a b c) = nextChart chart (machine.reanalysis kind a b c)
+chartAfterCommand chart command.correct = nextChart chart machine.correction
+chartAfterCommand chart command.renew = nextChart chart machine.renewal
+chartAfterCommand chart command.lines = chart
+chartAfterCommand chart command.write = chart
+chartAfterCommand chart (command.read bytes) = chartRead chart (reading bytes)
+chartAfterCommand chart command.show = chart
+
+-- ---- of a line
+
+-- "error: " and what is wrong; the chart stays
+abbrev pub replyToLine : Chart → Line → List ℕ
+replyToLine chart command.passedOver = []
+replyToLine chart (command.faulty n) = faultText n
+replyToLine chart (command.asked c) = replyTo chart c
+
+abbrev pub chartAfterLine : Chart → Line → Chart
+chartAfterLine chart command.passedOver = chart
+chartAfterLine chart (command.faulty n) = chart
+chartAfterLine chart (command.asked c) = chartAfterCommand chart c
+
+-- "writes one line for each": a line feed follows the reply; nothing is written for a line that is passed over
+abbrev pub answerToLine : Chart → Line → List ℕ
+answerToLine chart command.passedOver = []
+answerToLine chart (command.faulty n) = faultText n ++ (10 ∷ [])
+answerToLine chart (command.asked c) = replyTo chart c ++ (10 ∷ [])

@@ -1,0 +1,2 @@
+-- Laws of places within buffers.
+mod Places

@@ -1,0 +1,46 @@
+-- `control_chart::input::take_part` meets its contract.
+use borrow.Author.Needs.{needs}
+use Rattle.printing.proofs.Putting.{puts-within}
+use Rattle.control_chart.proofs.Places.{text-counts}
+use Rattle.control_chart.proofs.input.take_part.Statement.{statement}
+use Rattle.control_chart.proofs.input.take_part.Tie as tie
+
+put-text-requires : tie.Need-put-text-requires
+put-text-requires c κs = search needs
+
+same-length : tie.Need-same-length
+same-length c = search needs
+
+returns : tie.Need-returns
+returns c =
+    let put = c .before .before .before in puts-within (put .before .before .before .before .before .pre) (put .put-text .ensures)
+
+slice-reshare-prefix-end-line : tie.Need-slice-reshare-prefix-end-line
+slice-reshare-prefix-end-line c =
+    let put = c .before .before .before in puts-within (put .before .before .before .before .before .pre) (put .put-text .ensures)
+
+slice-aggregate-end-line : tie.Need-slice-aggregate-end-line
+slice-aggregate-end-line c =
+    let put = c .before .before .before .before in text-counts (put .before .before .before .before .before .pre) (put .put-text .ensures) .1
+
+end-line-requires : tie.Need-end-line-requires
+end-line-requires c κs = search needs
+
+same-length-2 : tie.Need-same-length-2
+same-length-2 c = search needs
+
+returns-2 : tie.Need-returns-2
+returns-2 c = search needs
+
+pub take-part-spec : {M : Type 1} → statement M
+take-part-spec =
+    tie.close
+    (tie.spec
+    put-text-requires
+    same-length
+    returns
+    slice-reshare-prefix-end-line
+    slice-aggregate-end-line
+    end-line-requires
+    same-length-2
+    returns-2)

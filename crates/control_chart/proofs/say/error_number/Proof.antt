@@ -1,0 +1,20 @@
+-- `control_chart::say::error_number` meets its contract.
+use native.Mathlib.Omega.{arith}
+use borrow.Author.Needs.{needs}
+use mir.Syntax.{w32}
+use Rattle.guide.proofs.Complement.{natural}
+use Rattle.control_chart.proofs.say.error_number.Statement.{statement}
+use Rattle.control_chart.proofs.say.error_number.Tie as tie
+
+returns : tie.Need-returns
+returns c = search needs
+
+cast-result : tie.Need-cast-result
+cast-result c =
+    let z = natural w32 (c .before .args .error) (c .before .fits .error) (c .if1 .left) in rw (z .is) (tt, omega (arith, z .fits))
+
+returns-2 : tie.Need-returns-2
+returns-2 c = search needs
+
+pub error-number-spec : {M : Type 1} → statement M
+error-number-spec = tie.close (tie.spec returns cast-result returns-2)

@@ -1,0 +1,157 @@
+// Commands on standard input, one to a line.
+use crate::say::say;
+use bytes::scan::find;
+use chart::Chart;
+use chart::zero_chart;
+use commands::ANSWER_MOST;
+use commands::Answered;
+use commands::LINE_MOST;
+use commands::answer_line;
+use libc::STDIN_FILENO;
+use parsing::fields::without_return;
+use printing::put_text;
+ghost use mathlib.Core.Path.{_≡_};
+ghost use Prim.Native.Nat.{_+_, _≤_};
+ghost use lib.ListN.{length};
+ghost use lib.Dec.{ltb};
+ghost use Rattle.guide.specs.Choice.{choose};
+ghost use Rattle.io.specs.Counts.{Counts};
+ghost use Rattle.commands.specs.Command.{lineIn};
+ghost use Rattle.commands.specs.Answers.{Answers};
+
+// Room for the longest line, a carriage return, and one byte by which a longer line is known.
+pub const LINE_ROOM: usize = LINE_MOST + 2;
+
+// The chart, and how many bytes have come of a line that has not ended.
+pub struct Pending {
+    pub chart: Chart,
+    pub len: usize,
+}
+
+// What one read brought: whether to go on, and what is pending then.
+struct Turn {
+    more: bool,
+    pending: Pending,
+}
+
+// Nothing says that the input ends, so the reads are counted: 2^63 of them are more than any input needs.
+pub fn commands_from_input() {
+    let mut line = [0u8; LINE_ROOM];
+    let pending = Pending {
+        chart: zero_chart(),
+        len: 0,
+    };
+    let last = take_all(pending, &mut line);
+    end_input(last, &line);
+}
+
+// Reads to the end of the input.
+fn take_all(pending: Pending, line: &mut [u8]) -> Pending
+    requires { ⌜ pending .len ≤ length (now line) ⌝ }
+    ensures { λ r. ⌜ r .len ≤ length (now (line .exit)) ⌝ }
+{
+    let mut kept = pending;
+    let mut left: u64 = 9223372036854775808;
+    while 0 < left {
+        let turn = read_some(kept, line);
+        kept = turn.pending;
+        if !turn.more {
+            return kept;
+        }
+        left -= 1;
+    }
+    kept
+}
+
+// A last line that has no line feed.
+fn end_input(pending: Pending, line: &[u8])
+    requires { ⌜ pending .len ≤ length (now line) ⌝ }
+{
+    let n = pending.len;
+    if 0 < n {
+        answered(pending.chart, &line[..n]);
+    }
+}
+
+// One read.
+fn read_some(pending: Pending, line: &mut [u8]) -> Turn
+    requires { ⌜ pending .len ≤ length (now line) ⌝ }
+    ensures { λ r. ⌜ r .pending .len ≤ length (now (line .exit)) ⌝ }
+{
+    let mut bytes = io::buffer();
+    let got = libc::read(STDIN_FILENO, &mut bytes);
+    if got < 0 {
+        os::fail(b"standard input");
+    }
+    let n = io::count(got, &bytes);
+    let after = take_bytes(pending, &bytes[..n], line);
+    Turn {
+        more: 0 < n,
+        pending: after,
+    }
+}
+
+// Bytes that came: each line that ends among them is answered, and the rest is kept.
+fn take_bytes(pending: Pending, bytes: &[u8], line: &mut [u8]) -> Pending
+    requires { ⌜ pending .len ≤ length (now line) ⌝ }
+    ensures { λ r. ⌜ r .len ≤ length (now (line .exit)) ⌝ }
+{
+    let mut kept = pending;
+    let mut at: usize = 0;
+    while at < bytes.len() {
+        let end = find(bytes, at, bytes.len(), b'\n');
+        kept = take_part(kept, &bytes[at..end], end < bytes.len(), line);
+        at = after_line_feed(bytes, end);
+    }
+    kept
+}
+
+// The byte behind a line feed; where none came, the end of the bytes.
+fn after_line_feed(bytes: &[u8], end: usize) -> usize
+    ensures { λ r. ⌜ r ≡ choose (ltb end (length (now (bytes .entry)))) (end + 1) end ⌝ }
+{
+    if end < bytes.len() { end + 1 } else { end }
+}
+
+// A part of a line, and whether a line feed follows it. A carriage return before the line feed is passed over.
+fn take_part(pending: Pending, part: &[u8], ends: bool, line: &mut [u8]) -> Pending
+    requires { ⌜ pending .len ≤ length (now line) ⌝ }
+    ensures { λ r. ⌜ r .len ≤ length (now (line .exit)) ⌝ }
+{
+    let chart = pending.chart;
+    let len = put_text(line, pending.len, part);
+    if !ends {
+        return Pending { chart, len };
+    }
+    end_line(chart, &line[..len])
+}
+
+fn end_line(chart: Chart, line: &[u8]) -> Pending
+    ensures { λ r. ⌜ r .len ≡ 0 ⌝ }
+{
+    let n = without_return(line);
+    answered(chart, &line[..n])
+}
+
+// Answers a line, and begins the next.
+fn answered(chart: Chart, line: &[u8]) -> Pending
+    ensures { λ r. ⌜ r .len ≡ 0 ⌝ }
+{
+    let mut out = [0u8; ANSWER_MOST];
+    let r = answer(chart, line, &mut out);
+    let after = r.chart;
+    let size = r.size;
+    say(&out[..size]);
+    Pending {
+        chart: after,
+        len: 0,
+    }
+}
+
+// Answers a line; the answer lies within the buffer.
+pub fn answer(chart: Chart, line: &[u8], out: &mut [u8]) -> Answered
+    ensures { λ r. ⌜ Answers chart (lineIn (now (line .entry))) (now (out .entry)) (now (out .exit)) r ⌝ }
+    ensures { λ r. ⌜ Counts (r .size) (now (out .exit)) ⌝ }
+{
+    answer_line(chart, line, out)
+}

@@ -1,0 +1,162 @@
+-- The doubles of a sound chart's lines: k is at most 2 ^ 34 in size, and the program reads just that k off its double (`lines-held`).
+use mathlib.Core.Path.{_≡_, refl, ap, _∙_}
+use mathlib.Core.Bool.{true}
+use mathlib.Core.List.{List, [], _∷_}
+use Prim.Native.Nat.{ℕ, _*_, _-_, _/_, _<_, _≤_, _^_}
+use native.Mathlib.Omega.{arith}
+use native.Mathlib.Nat.{mul-le-mul, div-le-self}
+use lib.ListN.{length}
+use lib.Dec.{lit≤}
+use lib.IntN.{ℤ, pos, natAbs, _+ℤ_, _-ℤ_, _*ℤ_}
+use Rattle.guide.specs.Sizes.{lineParts, baseMost}
+use Rattle.guide.specs.Kind.{inRange, wordMost, hasLower}
+use Rattle.guide.specs.AllOf.{allOf}
+use Rattle.guide.specs.Building.{allInRange}
+use Rattle.guide.specs.SquareRoot.{squareRoot}
+use Rattle.guide.specs.Limits as limits
+use Rattle.guide.specs.Limits.{sumOf, sumOfSquares, sumsOf, vOf, limitsOf, controlMultiple, warningMultiple}
+use Rattle.guide.specs.State.{limitsFor}
+use Rattle.guide.specs.Double.{doubleOf}
+use Rattle.guide.specs.Lines.{greatestDeviation, upperLine, lowerLine, meanLine}
+use Rattle.guide.specs.ChartLines.{linesOf}
+use Rattle.guide.proofs.Booleans.{both}
+use Rattle.guide.proofs.Choice.{choose-ind}
+use Rattle.guide.proofs.Integers.{by-order, of-pos, minus, agree, square-magnitude, magnitude-plus}
+use Rattle.guide.proofs.Kind.{in-range-few}
+use Rattle.guide.proofs.Limits.{v-natural, squares-are}
+use Rattle.guide.proofs.Lines.{in-range-squares}
+use Rattle.guide.proofs.SquareRoot.{root-is}
+use Rattle.guide.proofs.Soundness.{sound-facts}
+use Rattle.guide.proofs.Double.{parts-of-double}
+use Rattle.limits.specs.declared.Sums.{Sums}
+use Rattle.limits.specs.declared.Limits.{Limits}
+use Rattle.limits.specs.Sums.{sumsSay, Bounded, AreLimits}
+use Rattle.limits.proofs.Spread.{v-is}
+use Rattle.chart.specs.declared.Chart.{Chart}
+use Rattle.chart.specs.Chart.{stateOf}
+use Rattle.chart.specs.Soundness.{soundChart}
+use Rattle.chart.proofs.SoundCharts.{sound-chart-facts}
+use Rattle.lines.specs.Lines.{HasLines, partsHeld, IsHeldLine, AreSmallLines, AreHeldLines}
+use Rattle.lines.proofs.Quotients.{down-small, up-small}
+use Rattle.lines.proofs.Deviations.{product-fits, deviation-is}
+use Rattle.lines.proofs.LineParts.{parts-small, plus-small, minus-small}
+use Rattle.lines.proofs.PartsHeld.{held-whole}
+use Rattle.lines.proofs.ChartLines.{has-lines}
+
+-- ---- how large the lines are that sums give
+
+-- a root of 64 bits has 32
+root-small : (q : ℕ) → q < 2 ^ 64 → squareRoot q < 2 ^ 32
+root-small q h =
+    by-order (squareRoot q) (2 ^ 32)
+    (λ g. absurd (omega (arith, mul-le-mul g g, root-is q .at-most)))
+    (λ g. g)
+
+module _ (s : Sums) (has : HasLines s) where
+  deviation-small : (m : ℕ) → m ≤ 3 → greatestDeviation (lineParts * m) (sumsSay s) < 2 ^ 32
+  deviation-small m few =
+      let v = s .n * s .q - natAbs (s .t) * natAbs (s .t) in
+      let e = v-is s (has .bounded) in
+      let product = lineParts * m * (lineParts * m) * (s .n * v) in
+      let fits : product / (s .n - 1) < 2 ^ 64 = omega (arith, product-fits s has v e m few, div-le-self product (s .n - 1)) in
+      rw (← deviation-is m s v e) (root-small (product / (s .n - 1)) fits)
+
+  mean-small : natAbs (meanLine (sumsSay s)) ≤ 2 ^ 34
+  unfolding meanLine
+  mean-small = let z = pos lineParts *ℤ s .t in omega (arith, down-small z (s .n), parts-small s (has .bounded))
+
+  upper-small : (m : ℕ) → m ≤ 3 → natAbs (upperLine m (sumsSay s)) ≤ 2 ^ 34
+  unfolding upperLine
+  upper-small m few =
+      let d = greatestDeviation (lineParts * m) (sumsSay s) in
+      let z = pos lineParts *ℤ s .t +ℤ pos d in
+      omega (arith, down-small z (s .n), plus-small s (has .bounded) (pos lineParts *ℤ s .t) refl d (deviation-small m few))
+
+  lower-small : (m : ℕ) → m ≤ 3 → natAbs (lowerLine m (sumsSay s)) ≤ 2 ^ 34
+  unfolding lowerLine
+  lower-small m few =
+      let d = greatestDeviation (lineParts * m) (sumsSay s) in
+      let z = pos lineParts *ℤ s .t -ℤ pos d in
+      omega (arith, up-small z (s .n), minus-small s (has .bounded) (pos lineParts *ℤ s .t) refl d (deviation-small m few))
+
+  pub small-lines : AreSmallLines (sumsSay s)
+  small-lines = record { of-mean = mean-small; of-upper = upper-small; of-lower = lower-small }
+
+-- ---- what is read off the double of a line
+
+pub double-held : (k : ℤ) → natAbs k < 2 ^ 63 → partsHeld (doubleOf k) ≡ k
+double-held k h = held-whole (doubleOf k) (rw (parts-of-double k) h) ∙ parts-of-double k
+
+pub line-held : (k : ℤ) → natAbs k ≤ 2 ^ 34 → IsHeldLine k (doubleOf k)
+line-held k h = record { double = refl; small = h; held = double-held k (omega arith) }
+
+-- .. of each line that limits give
+pub held-lines : (l : limits.Limits) → AreSmallLines (l .sums) → AreHeldLines (l .sums) (linesOf l)
+unfolding linesOf
+held-lines l small =
+    let s = l .sums in
+    let mean = line-held (meanLine s) (small .of-mean) in
+    let upper-warning = line-held (upperLine warningMultiple s) (small .of-upper warningMultiple (lit≤ tt)) in
+    let upper-control = line-held (upperLine controlMultiple s) (small .of-upper controlMultiple (lit≤ tt)) in
+    choose-ind (λ lines. AreHeldLines s lines) (hasLower (l .kind)) _ _
+    (λ t. record {
+      of-mean = mean;
+      of-lower-warning = line-held (lowerLine warningMultiple s) (small .of-lower warningMultiple (lit≤ tt));
+      of-upper-warning = upper-warning;
+      of-lower-control = line-held (lowerLine controlMultiple s) (small .of-lower controlMultiple (lit≤ tt));
+      of-upper-control = upper-control;
+    })
+    (λ t. record { of-mean = mean; of-upper-warning = upper-warning; of-upper-control = upper-control })
+
+-- ---- the sums of a sound chart's base
+
+sum-in-range : (kind : ℕ) (ws : List ℤ) → allOf (inRange kind) ws ≡ true → natAbs (sumOf ws) ≤ wordMost * length ws
+unfolding allOf sumOf
+sum-in-range kind [] h = omega arith
+sum-in-range kind (w ∷ ws) h =
+    let each = both (inRange kind w) (allOf (inRange kind) ws) h in
+    omega (arith, magnitude-plus w (sumOf ws), in-range-few kind w (each .0), sum-in-range kind ws (each .1))
+
+abbrev baseSums : List ℤ → Sums
+baseSums ws = record { n = length ws; t = sumOf ws; q = natAbs (sumOfSquares ws) }
+
+sums-same : (ws : List ℤ) → sumsSay (baseSums ws) ≡ sumsOf ws
+unfolding sumsOf
+sums-same ws = rw squares-are
+
+bounded-sums : (kind : ℕ) (ws : List ℤ) → length ws ≤ baseMost → allInRange kind ws ≡ true → Bounded (baseSums ws)
+unfolding vOf allInRange
+bounded-sums kind ws few range =
+    let n = length ws in
+    let q = natAbs (sumOfSquares ws) in
+    let a = natAbs (sumOf ws) * natAbs (sumOf ws) in
+    let k = natAbs (vOf (sumsOf ws)) in
+    let v : pos n *ℤ pos q -ℤ sumOf ws *ℤ sumOf ws ≡ pos k = ap vOf (sums-same ws) ∙ v-natural ws in
+    let v′ : pos (n * q) -ℤ pos a ≡ pos k = rw (square-magnitude (sumOf ws)) at v in
+    let not-negative = agree (minus (of-pos {n = n * q}) (of-pos {n = a})) (of-pos {n = k}) v′ in
+    record {
+      few = few;
+      sum = omega (arith, sum-in-range kind ws range);
+      squares = omega (arith, in-range-squares kind ws range);
+      v = omega arith;
+    }
+
+module _ (c : Chart) (t : soundChart c ≡ true) where
+  base-limits : AreLimits (c .kind) (stateOf c .base) (record { kind = c .kind; sums = baseSums (stateOf c .base) })
+  unfolding limitsOf stateOf
+  base-limits =
+      let s = stateOf c in
+      let facts = sound-facts s (sound-chart-facts c t .state) in
+      record {
+        same = λ i. record { kind = c .kind; sums = sums-same (s .base) i };
+        bounded = bounded-sums (s .kind) (s .base) (facts .base-most) (facts .base-in-range);
+      }
+
+  pub lines-small : AreSmallLines (limitsFor (stateOf c) .sums)
+  unfolding limitsFor limitsOf
+  lines-small =
+      let ws = stateOf c .base in
+      rw (← sums-same ws) (small-lines (baseSums ws) (has-lines c t (record { kind = c .kind; sums = baseSums ws }) base-limits))
+
+  pub lines-held : AreHeldLines (limitsFor (stateOf c) .sums) (linesOf (limitsFor (stateOf c)))
+  lines-held = held-lines (limitsFor (stateOf c)) lines-small

@@ -1,0 +1,61 @@
+-- Numbers as text: in decimal, and 256ths exactly, with eight decimals.
+use mathlib.Core.List.{List, [], _∷_, _++_}
+use Prim.Native.Nat.{ℕ, zero, suc, _+_, _*_, _/_, _%_}
+use lib.Dec.{ltb}
+use lib.IntN.{ℤ, pos, negsuc}
+use Rattle.guide.specs.Choice.{choose}
+use Rattle.guide.specs.Sizes.{lineParts}
+
+-- the codes of '0', '-', '.' and the space
+abbrev pub zeroCode : ℕ
+zeroCode = 48
+
+abbrev pub minusCode : ℕ
+minusCode = 45
+
+abbrev pub pointCode : ℕ
+pointCode = 46
+
+abbrev pub spaceCode : ℕ
+spaceCode = 32
+
+-- a digit 0..9
+abbrev pub digit : ℕ → ℕ
+digit d = zeroCode + d
+
+-- the digits of n, the highest first, at most so many; n + 1 are enough: `proofs/Digits` has
+-- decimal n ≡ digit n ∷ [] for n below 10, and decimal n ≡ decimal (n / 10) ++ (digit (n % 10) ∷ []) otherwise
+unfoldable pub decimalBy : ℕ → ℕ → List ℕ
+decimalBy zero n = []
+decimalBy (suc more) n = choose (ltb n 10) (digit n ∷ []) (decimalBy more (n / 10) ++ (digit (n % 10) ∷ []))
+
+unfoldable pub decimal : ℕ → List ℕ
+decimal n = decimalBy (suc n) n
+
+-- a number below 0 has a minus sign
+unfoldable pub signedDecimal : ℤ → List ℕ
+signedDecimal (pos n) = decimal n
+signedDecimal (negsuc n) = minusCode ∷ decimal (suc n)
+
+-- words, each behind a space
+unfoldable pub spacedWords : List ℤ → List ℕ
+spacedWords [] = []
+spacedWords (w ∷ ws) = (spaceCode ∷ signedDecimal w) ++ spacedWords ws
+
+-- the last `count` digits of n, with zeros in front where it has fewer
+unfoldable pub lastDigits : ℕ → ℕ → List ℕ
+lastDigits zero n = []
+lastDigits (suc count) n = lastDigits count (n / 10) ++ (digit (n % 10) ∷ [])
+
+-- 1/256 is 0.00390625: eight decimals hold every number of 256ths exactly
+abbrev pub decimalsOfPart : ℕ
+decimalsOfPart = 390625
+
+-- n / 256, with eight decimals
+unfoldable pub partsNatural : ℕ → List ℕ
+partsNatural n = decimal (n / lineParts) ++ (pointCode ∷ lastDigits 8 (n % lineParts * decimalsOfPart))
+
+-- k / 256, with eight decimals
+unfoldable pub partsDecimal : ℤ → List ℕ
+partsDecimal (pos n) = partsNatural n
+partsDecimal (negsuc n) = minusCode ∷ partsNatural (suc n)

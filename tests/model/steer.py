@@ -1,0 +1,321 @@
+"""Help for the generators: readings for a wanted word, words for a wanted verdict, a record of what was met."""
+
+from math import isqrt
+
+import commands
+import model
+
+KINDS = (1, 2, 3)
+
+
+def least_word(kind):
+    """The least word of the readings of a kind (kind 2 has no negative ones)."""
+    return -20000 if kind == 3 else 0
+
+
+def exact(kind, word):
+    """Three numbers whose word needs no rounding."""
+    if kind == 1:
+        return 20000 + word, 20000 - word, 0
+    if kind == 2:
+        return word, 10000, 0
+    return max(word, 0), max(-word, 0), 10000
+
+
+def formed(kind, numbers):
+    """The word of three numbers, or None."""
+    try:
+        return model.word_alone(kind, *numbers)
+    except model.Refused:
+        return None
+
+
+def rounded(rng, kind, word):
+    """Three numbers whose word is the wanted one, mostly by rounding; halves are met often."""
+    for _ in range(20):
+        if kind == 1:
+            total = rng.choice((rng.randint(1, 400), rng.randint(20000, 900000), rng.randint(1, 10 ** 9)))
+            if rng.random() < 0.4:
+                total = 40000 * rng.randint(1, 20000)
+                difference = (2 * word + rng.choice((-1, 1))) * total // 40000
+            else:
+                difference = (word * total + rng.randint(-total, total) // 2) // 20000
+            difference += (difference + total) % 2
+            numbers = [(total + difference) // 2, (total - difference) // 2, rng.randint(-9, 9)]
+            if rng.random() < 0.5:
+                numbers[:2] = numbers[1::-1]
+        else:
+            if rng.random() < 0.4:
+                divisor = 20000 * rng.randint(1, 20000)
+                upper = (2 * word + rng.choice((-1, 1))) * divisor // 20000 + rng.choice((0, 0, 1, -1))
+            else:
+                divisor = rng.choice((rng.randint(1, 400), rng.randint(10000, 900000), rng.randint(1, 4 * 10 ** 8)))
+                upper = (word * divisor + rng.randint(-divisor, divisor) // 2) // 10000
+            if kind == 2:
+                numbers = [upper, divisor, rng.randint(-9, 9)]
+            else:
+                least = max(0, -upper)
+                most = min(10 ** 9, 10 ** 9 - upper)
+                if least > most:
+                    continue
+                unspiked = rng.choice((least, rng.randint(least, most), most))
+                numbers = [unspiked + upper, unspiked, divisor]
+        if formed(kind, numbers) == word:
+            return tuple(numbers)
+    return exact(kind, word)
+
+
+def reading_for(rng, kind, word):
+    """Three numbers for a word, exact or by rounding."""
+    return exact(kind, word) if rng.random() < 0.5 else rounded(rng, kind, word)
+
+
+def places(chart):
+    """The whole numbers at mean and mean +- S, 2S, 3S."""
+    n, total, v = model.figures(chart.base)
+    found = [total // n]
+    for times in (1, 2, 3):
+        reach = isqrt(times * times * n * v // (n - 1))
+        found += [(total + reach) // n, -((reach - total) // n)]
+    return found
+
+
+def candidates(chart, kind=None):
+    """Words near every place where an outcome can change, within the words that a reading can give."""
+    kind = kind or chart.kind
+    middles = places(chart) + list(chart.series[-8:]) + [0, 20000, -20000]
+    words = {middle + off for middle in middles for off in (-2, -1, 0, 1, 2)}
+    return sorted(word for word in words if least_word(kind) <= word <= 20000)
+
+
+def plan(rng, chart, wanted, side=None):
+    """Words for a free chart: all but the last get verdict 0, the last the wanted one. None if none is found."""
+    kind = chart.kind
+    if kind == 1 and wanted == 4:
+        return None
+    _, up1, low1, up2, low2, up3, low3 = places(chart)
+    mean = places(chart)[0]
+    bottom = max(least_word(kind), low3 if kind != 1 else low3 - 500)
+    top = min(20000, up3)
+    for _ in range(60):
+        way = side or rng.choice((1, -1))
+        if wanted in (0, 1):
+            words = [rng.choice(candidates(chart))]
+        elif wanted == 2:
+            edge = up2 if way > 0 else low2
+            far = up3 if way > 0 else low3
+            pool = [edge + way, edge + 2 * way, far, far - way, (edge + far) // 2]
+            words = [rng.choice(pool), rng.choice(pool)]
+        elif wanted == 3:
+            room = max(1, (top - bottom) // 8)
+            steps = [rng.choice((1, rng.randint(1, room))) for _ in range(6)]
+            first = rng.randint(bottom, top)
+            words = [first]
+            for size in steps:
+                words.append(words[-1] + way * size)
+        else:
+            near, far = (mean + 1, min(up2, 20000)) if way > 0 else (max(low2, bottom), mean - 1)
+            if near > far:
+                continue
+            pool = [rng.randint(near, far), near, far, mean + way]
+            words = [rng.choice(pool) for _ in range(7)]
+        if not all(least_word(kind) <= word <= 20000 for word in words):
+            continue
+        for start in range(len(words)):
+            tried = words[start:]
+            verdicts = [model.judge(kind, chart.base, chart.series + tuple(tried[:count + 1]))
+                        for count in range(len(tried))]
+            if verdicts[-1] == wanted and not any(verdicts[:-1]):
+                return tried
+    return None
+
+
+def flips(chart):
+    """Pairs of neighbouring words, one failing and one passing, on a chart with an open verdict."""
+    found = []
+    words = candidates(chart)
+    for first, second in zip(words, words[1:]):
+        if second != first + 1:
+            continue
+        outcomes = model.passes(chart, first), model.passes(chart, second)
+        if outcomes == (False, True):
+            found.append((first, second))
+        elif outcomes == (True, False):
+            found.append((second, first))
+    return found
+
+
+def random_base(rng, kind, size=None, centre=None, spread=None):
+    """Words for a build: several shapes, often with some words far away."""
+    size = size or rng.randint(15, 32)
+    if centre is None:
+        centre = rng.choice((rng.randint(0, 20000), 1000, 10000, rng.randint(0, 50)))
+        if kind == 3:
+            centre *= rng.choice((1, -1))
+    if spread is None:
+        spread = rng.choice((0, 1, 3, 20, 100, 1000, 9000))
+    shape = rng.randrange(4)
+    if shape == 0:
+        words = [centre + rng.randint(-spread, spread) for _ in range(size)]
+    elif shape == 1:
+        words = [centre + rng.choice((-spread, spread)) for _ in range(size)]
+    elif shape == 2:
+        half = (size - 1) // 2
+        words = [centre - spread] * half + [centre + spread] * half + [centre] * (size - 2 * half)
+    else:
+        words = [centre + sum(rng.randint(-spread, spread) for _ in range(4)) // 3 for _ in range(size)]
+    if rng.random() < 0.4:
+        for _ in range(rng.randint(1, 4)):
+            far = rng.choice((3, 4, 8, 30, 200)) * (spread + 1) * rng.choice((1, -1))
+            words[rng.randrange(size)] = centre + far + rng.randint(-spread, spread)
+    if rng.random() < 0.5:
+        rng.shuffle(words)
+    least = 0 if kind == 1 else -20000
+    return [min(20000, max(least, word)) for word in words]
+
+
+def applying(chart, command, fields):
+    """All numbers of the table that apply to a call by themselves, in the order of document 01."""
+    found = []
+    if command in ("post", "reanalyse", "correct", "renew", "lines", "write") and not model.sound(chart):
+        found.append(14)
+    if command in ("post", "renew") and chart.status != 0:
+        found.append(8)
+    if command == "post" and len(chart.series) >= 366:
+        found.append(9)
+    if command == "reanalyse" and chart.status != 1:
+        found.append(10)
+    if command == "correct" and chart.status != 2:
+        found.append(11)
+    if command == "renew" and len(chart.base + chart.series) < 15:
+        found.append(12)
+    if command == "word" and fields[0] not in KINDS:
+        found.append(1)
+    if command in ("post", "reanalyse") and fields[0] != chart.kind:
+        found.append(4)
+    if command in ("word", "post", "reanalyse"):
+        kind, a, b, c = fields
+        used = (a, b) if kind in (1, 2) else (a, b, c)
+        if any(not 0 <= reading <= 10 ** 9 for reading in used):
+            found.append(5)
+        numerator, divisor = {1: (20000 * abs(a - b), a + b), 2: (10000 * a, b)}.get(kind, (10000 * (a - b), c))
+        if kind in KINDS and divisor == 0:
+            found.append(6)
+        elif kind in KINDS and abs(numerator) * 2 >= abs(divisor) * 40001:
+            found.append(7)
+    if command == "build":
+        kind, words = fields[0], fields[1:]
+        if kind not in KINDS:
+            found.append(1)
+        if not 15 <= len(words) <= 32:
+            found.append(2)
+        if not all(model.in_range(kind, word) for word in words):
+            found.append(3)
+    return found
+
+
+class Record:
+    """Lines, their answers by the model, and a table of what was met."""
+
+    def __init__(self):
+        self.chart = model.ZEROS
+        self.lines = []
+        self.answers = []
+        self.charts = []
+        self.table = {}
+
+    def count(self, key):
+        self.table[key] = self.table.get(key, 0) + 1
+
+    def raw(self, line, end=b"\n"):
+        """One line of bytes; its end is a line feed, with or without a carriage return, or nothing."""
+        before = self.chart
+        self.charts.append(before)
+        self.lines.append(line + end)
+        if end == b"":
+            seen = line
+        else:
+            seen = (line + end)[:-1]
+            seen = seen[:-1] if seen.endswith(b"\r") else seen
+        self.chart, answer = commands.step(before, seen)
+        self.answers.append(answer)
+        self.note(before, seen, answer)
+        return answer
+
+    def do(self, command, *fields):
+        """One command with its fields."""
+        return self.raw(" ".join([command] + [str(field) for field in fields]).encode())
+
+    def post(self, word, rng=None):
+        """A post of a word on the chart's own kind."""
+        kind = self.chart.kind
+        return self.do("post", kind, *(reading_for(rng, kind, word) if rng else exact(kind, word)))
+
+    def reanalyse(self, word, rng=None):
+        """A reanalysis with a word on the chart's own kind."""
+        kind = self.chart.kind
+        return self.do("reanalyse", kind, *(reading_for(rng, kind, word) if rng else exact(kind, word)))
+
+    def build(self, kind, words):
+        return self.do("build", kind, *words)
+
+    def store(self):
+        """The stored form of the chart, in hex digits."""
+        return model.stored_form(self.chart).hex()
+
+    def read_chart(self, chart):
+        """A read of a chart, sound or not."""
+        return self.do("read", model.stored_form(chart).hex())
+
+    def note(self, before, line, answer):
+        """Adds one line to the table of outcomes."""
+        if answer is None:
+            self.count("passed over")
+            return
+        text = answer.decode()
+        if text.startswith("error"):
+            self.count(text.split(";")[0])
+            return
+        fields = line.replace(b"\t", b" ").decode().split()
+        command = fields[0]
+        if text.startswith("refused"):
+            self.count("%s refused %s" % (command, text.split()[1]))
+            if command != "read":
+                numbers = [commands.number(field.encode()) for field in fields[1:]]
+                if numbers:
+                    numbers[0] = numbers[0] if 0 <= numbers[0] <= 65535 else 0
+                reasons = applying(before, command, numbers)
+                for other in reasons[1:]:
+                    self.count("%s refused %d where %d applies too" % (command, reasons[0], other))
+                assert reasons[0] == int(text.split()[1]), (line, text, reasons)
+            return
+        if command == "post":
+            self.count("post kind %d verdict %s" % (before.kind, text.split()[-1]))
+            if len(before.series) >= 365:
+                self.count("post as word 366, verdict %s" % text.split()[-1])
+        elif command == "reanalyse":
+            self.count("reanalyse kind %d verdict %d %s" % (before.kind, before.verdict, text.split()[-1]))
+            if len(before.series) == 366:
+                self.count("reanalyse on a full series, %s" % text.split()[-1])
+        elif command in ("build", "renew"):
+            done = self.chart
+            self.count("%s kind %d accepted" % (command, done.kind))
+            self.count("%s rounds %s" % (command, text.split()[2]))
+            if len(done.base) < 15:
+                self.count("%s leaving a base of %d" % (command, len(done.base)))
+        elif command == "read":
+            done = self.chart
+            self.count("read accepted status %d verdict %d" % (done.status, done.verdict))
+        elif command in ("word", "lines"):
+            kind = commands.number(fields[1].encode()) if command == "word" else before.kind
+            self.count("%s kind %d accepted" % (command, kind))
+        else:
+            self.count("%s accepted" % command)
+
+
+def print_table(table):
+    """The table of outcomes, one to a line."""
+    def key(name):
+        return [int(part) if part.isdigit() else part for part in name.replace(",", "").split()]
+    for name in sorted(table, key=lambda name: [str(part).zfill(6) for part in key(name)]):
+        print("%7d  %s" % (table[name], name))
