@@ -9,9 +9,9 @@ import sys
 
 import commands
 import model
-import steer
+import choices
 from model import Chart
-from steer import Record
+from choices import Record
 
 PORTION = 20000
 SHOWN = 5
@@ -21,8 +21,8 @@ LAST = (b"show", b"show\r", b"", b" ", b"#", b"\r", b"show" + b" " * 8187, b"sho
         b" " * 8191 + b"\r", b"#" * 8192, b"post 2 1", b"x", b"show" + b" " * 8188, b"read 00")
 
 
-class Session:
-    """Long random sessions, steered by the model's chart."""
+class Run:
+    """Long random runs, chosen by the model's chart."""
 
     def __init__(self, rng):
         self.rng = rng
@@ -61,10 +61,10 @@ class Session:
         self.left = rng.choice((5, 10, 20, 40, 80, 300))
         self.narrow = self.chance(0.3)
         self.trouble = rng.choice((0.05, 0.05, 0.4))
-        kind = rng.choice(steer.KINDS)
+        kind = rng.choice(choices.KINDS)
         way = rng.randrange(10)
         if way < 3:
-            self.rec.build(kind, steer.random_base(rng, kind))
+            self.rec.build(kind, choices.random_base(rng, kind))
         elif way < 5:
             self.rec.build(kind, self.base_at_edge(kind))
         elif way < 6:
@@ -79,7 +79,7 @@ class Session:
     def base_at_edge(self, kind):
         """Words for a build, one of them at the limit of its own base or one off."""
         rng = self.rng
-        words = steer.random_base(rng, kind, spread=rng.choice((1, 2, 5, 30, 200)))
+        words = choices.random_base(rng, kind, spread=rng.choice((1, 2, 5, 30, 200)))
         place = rng.randrange(len(words))
         way = rng.choice((1, -1))
         low, high = 0, 20000
@@ -114,12 +114,12 @@ class Session:
         """A chart as it may be stored, mostly sound."""
         rng = self.rng
         size = rng.choice((10, 11, 14, 15, 32, rng.randint(10, 32)))
-        base = tuple(steer.random_base(rng, kind, size=size, spread=rng.choice((0, 1, 9, 100, 700))))
+        base = tuple(choices.random_base(rng, kind, size=size, spread=rng.choice((0, 1, 9, 100, 700))))
         base = model.reject(kind, base)[0]
         if len(base) < 10:
             base = (base[0],) * 10
         chart = Chart(kind, base, (), 0, 0)
-        mean, up1, low1 = steer.places(chart)[:3]
+        mean, up1, low1 = choices.places(chart)[:3]
         words = [word for word in (mean, up1, low1, *base) if not model.beyond(kind, model.figures(base), 3, word)
                  and model.in_range(kind, word)] or [base[0]]
         count = rng.choice((0, 1, 2, 4, 5, 6, 7, 30, 358, 364, 365, 366))
@@ -127,7 +127,7 @@ class Session:
             count = max(0, 15 - len(base) + rng.choice((-1, 0)))
         series = [rng.choice(words) for _ in range(count)]
         if series and self.chance(0.4):
-            series[-1] = rng.choice(steer.candidates(chart, 3 if kind == 2 else kind))
+            series[-1] = rng.choice(choices.candidates(chart, 3 if kind == 2 else kind))
         chart = chart._replace(series=tuple(series))
         right = model.judge(kind, base, chart.series) if chart.series else 0
         if right and self.chance(0.6):
@@ -135,7 +135,7 @@ class Session:
         return chart
 
     def move(self):
-        """One step of a session."""
+        """One step of a run."""
         rng, rec = self.rng, self.rec
         chart = rec.chart
         if self.chance(0.06):
@@ -147,8 +147,8 @@ class Session:
         elif self.chance(0.05):
             self.stored()
         elif self.chance(0.02):
-            kind = rng.choice(steer.KINDS)
-            rec.do("word", kind, *steer.rounded(rng, kind, rng.randint(steer.least_word(kind), 20000)))
+            kind = rng.choice(choices.KINDS)
+            rec.do("word", kind, *choices.rounded(rng, kind, rng.randint(choices.least_word(kind), 20000)))
         elif self.chance(0.02):
             rec.do("word", rng.randint(0, 4), *(self.odd_reading() for _ in range(3)))
         elif not model.sound(chart):
@@ -156,7 +156,7 @@ class Session:
         elif chart.status == 2:
             rec.do("correct")
         elif chart.status == 1:
-            pairs = steer.flips(chart) if self.chance(0.5) else None
+            pairs = choices.flips(chart) if self.chance(0.5) else None
             word = rng.choice(rng.choice(pairs)) if pairs else self.word()
             rec.reanalyse(word, rng)
         elif len(chart.series) >= 366 or self.chance(0.02):
@@ -165,7 +165,7 @@ class Session:
             rec.do("show")
             rec.do("renew")
         elif self.chance(0.25):
-            for word in steer.plan(rng, chart, rng.choice((0, 1, 2, 3, 4, 4))) or []:
+            for word in choices.plan(rng, chart, rng.choice((0, 1, 2, 3, 4, 4))) or []:
                 rec.post(word, rng)
         else:
             rec.post(self.word(), rng)
@@ -175,13 +175,13 @@ class Session:
     def word(self):
         """A word near the limits, the mean or the last words."""
         rng, chart = self.rng, self.rec.chart
-        mean, _, _, up, low = steer.places(chart)[:5]
-        least = steer.least_word(chart.kind)
+        mean, _, _, up, low = choices.places(chart)[:5]
+        least = choices.least_word(chart.kind)
         if self.narrow and self.chance(0.9):
             # Words close together, so that renewal rejects the few others.
             return min(20000, max(least, mean + rng.randint(-1, 2)))
         if self.chance(0.5):
-            return rng.choice(steer.candidates(chart))
+            return rng.choice(choices.candidates(chart))
         return min(20000, max(least, rng.randint(low, up) if self.chance(0.8) else mean + rng.randint(-3, 3)))
 
     def odd_reading(self):
@@ -208,8 +208,8 @@ class Session:
             command = rng.choice(("post", "reanalyse"))
             rec.do(command, kind, *rng.choice(((300, 0, 100), (300, 100, 5), (0, 300, 100), (0, 0, 0), (5, 0, 0))))
         else:
-            other = rng.choice(steer.KINDS)
-            rec.do(rng.choice(("post", "reanalyse")), other, *steer.exact(other, rng.randint(0, 20000)))
+            other = rng.choice(choices.KINDS)
+            rec.do(rng.choice(("post", "reanalyse")), other, *choices.exact(other, rng.randint(0, 20000)))
 
     def stored(self):
         """A stored form, the chart's own or another one, as it is or damaged."""
@@ -217,7 +217,7 @@ class Session:
         if self.chance(0.4):
             self.structured()
             return
-        chart = rec.chart if self.chance(0.6) else self.random_chart(rng.choice(steer.KINDS))
+        chart = rec.chart if self.chance(0.6) else self.random_chart(rng.choice(choices.KINDS))
         if self.chance(0.3):
             chart = self.changed(chart)
         data = bytearray(model.stored_form(chart))
@@ -240,7 +240,7 @@ class Session:
     def structured(self):
         """A stored form with one of its records out of form, the others as they should be."""
         rng = self.rng
-        chart = self.random_chart(rng.choice(steer.KINDS))
+        chart = self.random_chart(rng.choice(choices.KINDS))
         head = [chart.kind, chart.status, chart.verdict]
         base, series = list(chart.base), list(chart.series)
         how = rng.randrange(7)
@@ -281,7 +281,7 @@ class Session:
         words = list(chart.base if how == 3 else chart.series)
         if words:
             place = rng.choice((0, len(words) - 1, rng.randrange(len(words))))
-            near = steer.candidates(chart) if len(chart.base) > 1 else [0]
+            near = choices.candidates(chart) if len(chart.base) > 1 else [0]
             words[place] = rng.choice((rng.choice(near), rng.choice(near), 20001, -20001, -1, 32767, -32768))
         if how == 3:
             return chart._replace(base=tuple(words))
@@ -388,9 +388,9 @@ def main():
     table, differences = {}, []
     asked = compared = wrong = portion = 0
     while asked < count:
-        session = Session(random.Random("%d %d" % (seed, portion)))
-        session.fill(min(PORTION, count - asked))
-        rec = session.rec
+        run = Run(random.Random("%d %d" % (seed, portion)))
+        run.fill(min(PORTION, count - asked))
+        rec = run.rec
         # The last line has no line feed, and a carriage return at its end stays.
         rec.raw(LAST[portion % len(LAST)], b"")
         place = "seed %d portion %d" % (seed, portion)
@@ -401,7 +401,7 @@ def main():
         portion += 1
         for key, times in rec.table.items():
             table[key] = table.get(key, 0) + times
-    steer.print_table(table)
+    choices.print_table(table)
     print("commands %d, answers compared %d, differing %d" % (asked, compared, wrong))
     return 1 if wrong else 0
 

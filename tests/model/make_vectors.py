@@ -7,9 +7,9 @@ import os
 import random
 
 import model
-import steer
+import choices
 from model import Chart
-from steer import Record, exact
+from choices import Record, exact
 
 A = (9900,) * 7 + (10100,) * 7 + (10000,)
 C = (10000,) * 7 + (10001,) * 8
@@ -89,11 +89,11 @@ def words(rec, rng):
             rec.do("word", 3, 5, 1000 * part + off + 5, 20000000)
             rec.do("word", 1, 20000000 + 500 * part + off, 20000000 - 500 * part, 0)
     for _ in range(120):
-        kind = rng.choice(steer.KINDS)
-        word = rng.randint(steer.least_word(kind), 20000)
-        rec.do("word", kind, *steer.rounded(rng, kind, word))
+        kind = rng.choice(choices.KINDS)
+        word = rng.randint(choices.least_word(kind), 20000)
+        rec.do("word", kind, *choices.rounded(rng, kind, word))
     for _ in range(60):
-        rec.do("word", rng.choice(steer.KINDS), rng.randint(0, 40), rng.randint(0, 40), rng.randint(0, 40))
+        rec.do("word", rng.choice(choices.KINDS), rng.randint(0, 40), rng.randint(0, 40), rng.randint(0, 40))
 
 
 def builds(rec, rng):
@@ -129,7 +129,7 @@ def builds(rec, rng):
             rec.do("lines")
             rec.do("show")
     # A word at a control limit of the base itself, and one off, on each side.
-    for kind in steer.KINDS:
+    for kind in choices.KINDS:
         for size in (15, 16, 20, 31, 32):
             for way in (1, -1):
                 plain = [5000 + (step % 3 - 1) * 40 for step in range(size - 1)]
@@ -139,7 +139,7 @@ def builds(rec, rng):
                     rec.build(kind, base)
                     rec.do("show")
     # Nineteen words, two of them exactly on the control limits, and one off.
-    for kind in steer.KINDS:
+    for kind in choices.KINDS:
         for far in (1, 3, 250, 5000):
             for off in (0, 1, -1):
                 base = (6000,) * 5 + (6000 + far,) + (6000,) * 8 + (6000 - far + off,) + (6000,) * 4
@@ -148,12 +148,12 @@ def builds(rec, rng):
                 rec.read_chart(Chart(kind, base, (6000 + far, 6000 - far), 0, 0))
                 rec.do("lines")
     for _ in range(100):
-        kind = rng.choice(steer.KINDS)
-        rec.build(kind, steer.random_base(rng, kind))
+        kind = rng.choice(choices.KINDS)
+        rec.build(kind, choices.random_base(rng, kind))
         rec.do(rng.choice(("show", "show", "lines")))
     for _ in range(40):
         # Words that fall off by a factor: many rounds.
-        kind = rng.choice(steer.KINDS)
+        kind = rng.choice(choices.KINDS)
         size = rng.randint(15, 32)
         few = rng.randint(3, 9)
         base = [rng.randint(0, 1) for _ in range(size - few)]
@@ -182,7 +182,7 @@ def course(rec):
     """The figures of document 01 and of its readings, as posts and reanalyses."""
     comment(rec, "figures")
 
-    def session(kind, base, posts, reanalyses=(), corrected=False):
+    def course(kind, base, posts, reanalyses=(), corrected=False):
         rec.build(kind, base)
         for word in posts:
             rec.post(word)
@@ -195,55 +195,55 @@ def course(rec):
             rec.do("show")
             restore(rec, stored)
 
-    session(2, A, [10300])
-    session(2, A, [10301], [10301, 10300, 9699, 9700])
-    session(2, A, [9700])
-    session(2, A, [9699], [9699, 9700, 10300, 10301])
-    session(2, A, [10250, 10210], [9790, 9800, 9799, 10200, 10201])
-    session(2, A, [10250, 9790])
-    session(2, A, [10200, 10210])
-    session(2, A, [9790, 9799], [9800, 9799, 10201, 10200])
-    session(2, A, [9790, 9800, 9790, 9790])
+    course(2, A, [10300])
+    course(2, A, [10301], [10301, 10300, 9699, 9700])
+    course(2, A, [9700])
+    course(2, A, [9699], [9699, 9700, 10300, 10301])
+    course(2, A, [10250, 10210], [9790, 9800, 9799, 10200, 10201])
+    course(2, A, [10250, 9790])
+    course(2, A, [10200, 10210])
+    course(2, A, [9790, 9799], [9800, 9799, 10201, 10200])
+    course(2, A, [9790, 9800, 9790, 9790])
     rising = range(9950, 10011, 10)
-    session(2, A, rising, [9995, 9600, 10100, 10099, 10010])
+    course(2, A, rising, [9995, 9600, 10100, 10099, 10010])
     rec.reanalyse(10010)
     rec.post(10020)
     rec.do("show")
-    session(2, A, range(10010, 10071, 10), [10059, 10060, 10061])
-    session(2, A, [10150] * 7, [9600, 9700, 10100, 10099], corrected=True)
-    session(2, A, [9850] * 7, [9699, 9700, 9900, 9901, 10000, 10300, 10301], corrected=True)
-    session(2, A, range(10110, 10171, 10), [10160, 10159])
-    session(2, A, range(9890, 9829, -10), [9840, 9841, 9839, 9901, 9900])
-    session(1, K, range(1010, 949, -10), [800, 961, 960, 959, 901, 900, 1099, 1100, 1300, 1301])
-    session(1, Z, range(100, 701, 100), [1000, 600, 599, 0, 1001])
-    session(1, Z, range(700, 99, -100), [1000, 200, 201, 1001, 0])
-    session(1, K, [790, 790])
-    session(1, K, [1201, 1201], [1200, 1201, 0, 799, 1301])
-    session(1, K, [1300, 699, 0, 0, 0, 0, 0, 0, 0])
-    session(1, K, [1301], [1300, 1301, 0])
-    session(2, A, [10250, 10301], [10250])
+    course(2, A, range(10010, 10071, 10), [10059, 10060, 10061])
+    course(2, A, [10150] * 7, [9600, 9700, 10100, 10099], corrected=True)
+    course(2, A, [9850] * 7, [9699, 9700, 9900, 9901, 10000, 10300, 10301], corrected=True)
+    course(2, A, range(10110, 10171, 10), [10160, 10159])
+    course(2, A, range(9890, 9829, -10), [9840, 9841, 9839, 9901, 9900])
+    course(1, K, range(1010, 949, -10), [800, 961, 960, 959, 901, 900, 1099, 1100, 1300, 1301])
+    course(1, Z, range(100, 701, 100), [1000, 600, 599, 0, 1001])
+    course(1, Z, range(700, 99, -100), [1000, 200, 201, 1001, 0])
+    course(1, K, [790, 790])
+    course(1, K, [1201, 1201], [1200, 1201, 0, 799, 1301])
+    course(1, K, [1300, 699, 0, 0, 0, 0, 0, 0, 0])
+    course(1, K, [1301], [1300, 1301, 0])
+    course(2, A, [10250, 10301], [10250])
     rec.reanalyse(10250)
     rec.do("show")
     rec.do("write")
-    session(1, (1000,) * 14 + (2000,), [1001], [1000, 1001, 999])
+    course(1, (1000,) * 14 + (2000,), [1001], [1000, 1001, 999])
     # Equal neighbours; six of a run; the word before the first of the seven.
-    session(2, A, [9950, 9960, 9970, 9970, 9980, 9990, 10000, 10010, 10020])
-    session(2, A, [9950, 9960, 9970, 9980, 9990, 10000, 10000, 10010])
-    session(2, A, [10100, 9950, 9960, 9970, 9980, 9990, 10000, 10010], [10110])
-    session(2, A, [10001] * 3 + [10000] + [10001] * 6 + [10002])
-    session(2, A, [9999] * 6 + [10000] + [9999] * 7)
-    session(2, A, [9999, 10001] * 8)
+    course(2, A, [9950, 9960, 9970, 9970, 9980, 9990, 10000, 10010, 10020])
+    course(2, A, [9950, 9960, 9970, 9980, 9990, 10000, 10000, 10010])
+    course(2, A, [10100, 9950, 9960, 9970, 9980, 9990, 10000, 10010], [10110])
+    course(2, A, [10001] * 3 + [10000] + [10001] * 6 + [10002])
+    course(2, A, [9999] * 6 + [10000] + [9999] * 7)
+    course(2, A, [9999, 10001] * 8)
     # Seven words, the first at the mean or beyond the warning limit.
-    session(3, N, [-1100] * 7, [-900], corrected=True)
-    session(3, N, [-1000] * 8)
-    session(3, N, [-1201, -1201], [-1201, -1200, -799, -800])
-    session(3, N, [-700], [])
-    session(3, N, [-699], [-700, -699, -1301, -1300])
+    course(3, N, [-1100] * 7, [-900], corrected=True)
+    course(3, N, [-1000] * 8)
+    course(3, N, [-1201, -1201], [-1201, -1200, -799, -800])
+    course(3, N, [-700], [])
+    course(3, N, [-699], [-700, -699, -1301, -1300])
     # The words of the base play no part in verdicts 2, 3 and 4.
     tail = (9900,) * 7 + (10100,) * 7 + (10290,)
-    session(2, tail, [10290, 10000, 10290])
-    session(2, (9900,) * 8 + (10100,) * 8 + (9950, 9960, 9970), [9980, 9990, 10000, 10010, 10020, 10030, 10040])
-    session(2, (10020,) * 7 + (9900,) * 7 + (10010,) * 7, [10020, 10010, 10010, 10010, 10010, 10010])
+    course(2, tail, [10290, 10000, 10290])
+    course(2, (9900,) * 8 + (10100,) * 8 + (9950, 9960, 9970), [9980, 9990, 10000, 10010, 10020, 10030, 10040])
+    course(2, (10020,) * 7 + (9900,) * 7 + (10010,) * 7, [10020, 10010, 10010, 10010, 10010, 10010])
     # Longer runs, as passed reanalyses leave them: the words before the seven play no part.
     for kind, base in BASES:
         mean = base[-1]
@@ -256,22 +256,22 @@ def course(rec):
                 rec.post(mean + way)
                 rec.do("show")
     # A run that ends beyond a limit: 1 and 2 come before 3 and 4.
-    session(2, A, [10001, 10002, 10003, 10004, 10005, 10006, 10301])
-    session(2, A, [10001, 10002, 10003, 10004, 10005, 10250, 10260])
-    session(2, A, [10002, 10001, 10003, 10004, 10005, 10250, 10260], [10200, 10201])
-    session(2, A, [10002, 10001, 10003, 10004, 10005, 10250, 10301])
+    course(2, A, [10001, 10002, 10003, 10004, 10005, 10006, 10301])
+    course(2, A, [10001, 10002, 10003, 10004, 10005, 10250, 10260])
+    course(2, A, [10002, 10001, 10003, 10004, 10005, 10250, 10260], [10200, 10201])
+    course(2, A, [10002, 10001, 10003, 10004, 10005, 10250, 10301])
 
 
 def open_states(rec, rng):
     """Every verdict for each kind, and the edges of every reanalysis."""
     comment(rec, "open verdicts and the edges of reanalysis")
-    for kind, base in BASES + tuple((kind, None) for kind in steer.KINDS for _ in range(2)):
+    for kind, base in BASES + tuple((kind, None) for kind in choices.KINDS for _ in range(2)):
         if base is None:
             base = plausible_base(rng, kind)
         if rec.build(kind, base).startswith(b"refused"):
             continue
         rec.do("lines")
-        for word in [rng.choice(steer.candidates(rec.chart)) for _ in range(rng.randrange(3))]:
+        for word in [rng.choice(choices.candidates(rec.chart)) for _ in range(rng.randrange(3))]:
             if rec.chart.status == 0:
                 rec.post(word, rng)
         if rec.chart.status != 0:
@@ -279,7 +279,7 @@ def open_states(rec, rng):
         start = rec.store()
         for verdict in (1, 2, 3, 4):
             for way in (1, -1):
-                found = steer.plan(rng, rec.chart, verdict, way)
+                found = choices.plan(rng, rec.chart, verdict, way)
                 if found is None:
                     continue
                 for word in found:
@@ -312,7 +312,7 @@ def at_edges(rec, rng, most):
     if chart.status == 2:
         rec.do("correct")
     stored = rec.store()
-    pairs = steer.flips(rec.chart)
+    pairs = choices.flips(rec.chart)
     if len(pairs) > most:
         pairs = rng.sample(pairs, most)
     for failing, passing in pairs:
@@ -325,13 +325,13 @@ def at_edges(rec, rng, most):
         rec.reanalyse(passing, rng)
         rec.do("show")
         if rng.random() < 0.4:
-            follow = steer.plan(rng, rec.chart, rng.choice((0, 1, 2, 3)))
+            follow = choices.plan(rng, rec.chart, rng.choice((0, 1, 2, 3)))
             if follow is not None and len(rec.chart.series) + len(follow) <= 366:
                 for word in follow:
                     rec.post(word)
         restore(rec, stored)
     if kind == 3 or not pairs:
-        rec.reanalyse(rng.choice(steer.candidates(rec.chart)), rng)
+        rec.reanalyse(rng.choice(choices.candidates(rec.chart)), rng)
 
 
 def refused_while_open(rec, rng, most):
@@ -378,7 +378,7 @@ def refusals(rec, rng):
                             (1000000001, 0, 0), (-1, 0, 0), (300, 1, 1), (300, 0, 100), (0, 300, 100), (5, 0, 0),
                             (5, 5, 0), (200005, 100000, 0), (200005, 0, 100000), (0, 200005, 100000),
                             (1000000001, 0, 1), (BIG, BIG, BIG), (-BIG - 1, 0, 0)):
-                if command == "post" and steer.formed(kind, numbers) is not None:
+                if command == "post" and choices.formed(kind, numbers) is not None:
                     continue
                 rec.do(command, kind, *numbers)
         rec.do("show")
@@ -392,7 +392,7 @@ def refusals(rec, rng):
                     for numbers in (good, (-1, 1, 1), (0, 0, 0), (300, 1, 1)):
                         rec.do(command, given, *numbers)
                 for numbers in ((1000000001, 0, 1), (300, 1, 1), (0, 300, 1), (-1, 0, 0)):
-                    if steer.formed(kind, numbers) is None:
+                    if choices.formed(kind, numbers) is None:
                         rec.do(command, kind, *numbers)
             rec.do("renew")
             rec.do("show")
@@ -406,8 +406,18 @@ def refusals(rec, rng):
         rec.do("correct")
 
 
+def longest_chart(rec):
+    """32 base words and 366 of the series, each as long as a word can be: the longest answers that there are."""
+    comment(rec, "the longest chart")
+    rec.read_chart(Chart(2, (-20000,) * 32, (-20000,) * 366, 0, 0))
+    rec.do("show")
+    rec.do("write")
+    rec.do("lines")
+
+
 def full_series(rec, rng):
     """366 words in the series."""
+    longest_chart(rec)
     comment(rec, "a full series")
     rec.build(2, A)
     for count in range(366):
@@ -430,13 +440,13 @@ def full_series(rec, rng):
         series = tuple(centre + (10, -10, 3, -7, 0)[step % 5] for step in range(359))
         for verdict in (0, 1, 2, 3, 4):
             chart = Chart(kind, base, series, 0, 0)
-            found = steer.plan(rng, chart, verdict)
+            found = choices.plan(rng, chart, verdict)
             if found is None:
                 continue
             # Fill up so that the last word of the plan is word 366.
             short = 366 - len(found) - len(series)
             chart = chart._replace(series=chart.series + tuple(centre + (12, -12)[step % 2] for step in range(short)))
-            found = steer.plan(rng, chart, verdict)
+            found = choices.plan(rng, chart, verdict)
             if found is None or len(chart.series) + len(found) != 366:
                 continue
             rec.read_chart(chart)
@@ -457,7 +467,7 @@ def full_series(rec, rng):
             rec.do("renew")
             at_edges(rec, rng, 2)
             if rec.chart.status == 1:
-                rec.reanalyse(steer.flips(rec.chart)[0][1])
+                rec.reanalyse(choices.flips(rec.chart)[0][1])
             if rec.chart.status == 0:
                 rec.post(centre)
                 rec.do("post", 4, -1, 0, 0)
@@ -484,7 +494,7 @@ def renewals(rec, rng):
     rec.do("renew")
     rec.reanalyse(0)
     rec.do("renew")
-    for kind in steer.KINDS:
+    for kind in choices.KINDS:
         for size in (10, 12, 14):
             for status in (1, 2):
                 rec.read_chart(Chart(kind, (700,) * size, (701,), status, 1))
@@ -495,7 +505,7 @@ def renewals(rec, rng):
     rec.post(1000)
     rec.do("renew")
     rec.do("show")
-    for kind in steer.KINDS:
+    for kind in choices.KINDS:
         for size in (10, 11, 12, 13, 14):
             base = tuple(5000 + 10 * step for step in range(size))
             for posts in (14 - size, 15 - size, 16 - size, 14, 15, 16):
@@ -504,7 +514,7 @@ def renewals(rec, rng):
                 rec.do("renew")
                 rec.do("show")
     # Distinct words, so that the words taken and their order are seen.
-    for kind in steer.KINDS:
+    for kind in choices.KINDS:
         for size in (15, 16, 20, 31, 32):
             for posts in (0, 1, 14, 15, 16):
                 base = [6000 + 13 * step * (1 if step % 2 else -1) for step in range(size)]
@@ -516,7 +526,7 @@ def renewals(rec, rng):
                     rec.do("show")
     # Rejection in renewal: the last words lie close together save a few.
     for _ in range(60):
-        kind = rng.choice(steer.KINDS)
+        kind = rng.choice(choices.KINDS)
         base = [4000] * 10 + [8000] * 10 + [6000] * rng.randint(0, 12)
         series = [6000 + rng.choice((0, 0, 1, -1)) for _ in range(rng.randint(0, 20))]
         value = 2
@@ -530,7 +540,7 @@ def renewals(rec, rng):
             rec.do("renew")
             rec.do("lines")
     # Down to ten words by renewal, for each kind.
-    for kind in steer.KINDS:
+    for kind in choices.KINDS:
         base = (0,) * 16 + (20000,) * 16
         for way in (1, -1):
             if kind == 1 and way < 0:
@@ -680,7 +690,7 @@ def soundness(rec, rng):
             rec.read_chart(Chart(kind, (word,) * 12, (), 0, 0))
             rec.read_chart(Chart(kind, (word,) * 32, (word,) * 2, 0, 0))
     # A base word at its own control limit and beyond it.
-    for kind in steer.KINDS:
+    for kind in choices.KINDS:
         for size in (10, 11, 12, 15, 32):
             for far in (1, 10, 1000):
                 for way in (1, -1):
@@ -695,11 +705,11 @@ def soundness(rec, rng):
                     rec.read_chart(Chart(kind, tuple(plain[:5] + [word] + plain[5:]), (), 0, 0))
     # Random forms, some of them changed in one number.
     for _ in range(120):
-        kind = rng.choice(steer.KINDS)
+        kind = rng.choice(choices.KINDS)
         base = model.reject(kind, tuple(plausible_base(rng, kind)))[0]
         chart = Chart(kind, base, (), 0, 0)
         for verdict in (0, 0, rng.choice((0, 1, 2, 3, 4))):
-            found = steer.plan(rng, chart, verdict)
+            found = choices.plan(rng, chart, verdict)
             if found:
                 chart = chart._replace(series=chart.series + tuple(found))
         right = model.judge(kind, base, chart.series) if chart.series else 0
@@ -753,11 +763,11 @@ def line_charts(rec, rng):
         rec.build(3, [way * (word + shift) for word in base])
         rec.do("lines")
     for _ in range(60):
-        kind = rng.choice(steer.KINDS)
-        rec.build(kind, steer.random_base(rng, kind))
+        kind = rng.choice(choices.KINDS)
+        rec.build(kind, choices.random_base(rng, kind))
         rec.do("lines")
     for _ in range(20):
-        base = steer.random_base(rng, 3)
+        base = choices.random_base(rng, 3)
         rec.build(3, base)
         rec.do("lines")
         rec.build(3, [-word for word in base])
@@ -768,22 +778,22 @@ def line_charts(rec, rng):
             rec.do("lines")
 
 
-def random_sessions(rec, rng, count):
-    """Sessions of random calls, mostly near the edges."""
-    comment(rec, "sessions")
+def random_runs(rec, rng, count):
+    """Runs of random calls, mostly near the edges."""
+    comment(rec, "runs")
     for _ in range(count):
-        kind = rng.choice(steer.KINDS)
+        kind = rng.choice(choices.KINDS)
         rec.build(kind, plausible_base(rng, kind))
         for _ in range(rng.randint(10, 30)):
             chart = rec.chart
             if chart.status == 2:
                 rec.do("correct")
             elif chart.status == 1:
-                rec.reanalyse(rng.choice(steer.candidates(chart)), rng)
+                rec.reanalyse(rng.choice(choices.candidates(chart)), rng)
             elif rng.random() < 0.06:
                 rec.do("renew")
             else:
-                found = steer.plan(rng, chart, rng.choice((0, 0, 0, 0, 1, 2, 3, 4)))
+                found = choices.plan(rng, chart, rng.choice((0, 0, 0, 0, 1, 2, 3, 4)))
                 for word in found or []:
                     rec.post(word, rng)
         rec.do("show")
@@ -924,7 +934,7 @@ def make():
     renewals(rec, rng)
     stored_forms(rec, rng)
     line_charts(rec, rng)
-    random_sessions(rec, rng, 14)
+    random_runs(rec, rng, 14)
     full_series(rec, rng)
     language(rec)
     long_lines(rec)
@@ -943,7 +953,7 @@ def main():
         file.write(asked)
     with open(os.path.join(folder, "stdout"), "wb") as file:
         file.write(answered)
-    steer.print_table(rec.table)
+    choices.print_table(rec.table)
     print("lines %d, answers %d, bytes %d and %d" % (
         len(rec.lines), sum(answer is not None for answer in rec.answers), len(asked), len(answered)))
 

@@ -104,7 +104,7 @@ number-found {line} {at} {start} {end} h field says =
 
 -- ---- a loop over the numbers of a line ends
 
--- how many bytes may still hold numbers, with the one in hand
+-- how many bytes may still hold numbers, this one included
 unfoldable pub remaining : List ℕ → NumberAt → ℕ
 remaining line n = choose (n .present) (suc (length line - n .next)) 0
 

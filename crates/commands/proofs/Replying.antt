@@ -26,7 +26,7 @@ use Rattle.commands.specs.Command as command
 use Rattle.commands.specs.Reply.{chartBuilt, chartRead, replyTo, chartAfterCommand}
 use Rattle.commands.specs.Answers.{Replies, afterBuild, afterRead}
 
--- ---- a call on the chart: what the call answers is replied, and its chart is handed on
+-- ---- a call on the chart: what the call answers is replied, and its chart is the chart after it
 
 pub replies-call : (c : Chart) (k : Command) (call : Call) {next : Chart} {answer : Answer} {before after : List ℕ} {size : ℕ}
     → replyTo c k ≡ answerText (answerTo c call) → chartAfterCommand c k ≡ nextChart c call

@@ -136,7 +136,9 @@ fn read_all(fd: i32, bytes: &mut [u8]) -> FileRead
 // The bytes are no sound chart's.
 fn say_refused(number: u16) {
     if number == 13 {
-        say(b"error: the file is refused 13: it holds no stored chart; take the last good copy\n");
+        say(
+            b"error: the file is refused 13: it holds no stored chart; check the name, or take the last good copy\n",
+        );
         return;
     }
     say(b"error: the file is refused 14: the chart in it is not sound; take the last good copy\n");

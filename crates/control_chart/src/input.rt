@@ -1,5 +1,6 @@
 // Commands on standard input, one to a line.
 use crate::say::say;
+use crate::say::say_failure;
 use bytes::scan::find;
 use chart::Chart;
 use chart::zero_chart;
@@ -28,8 +29,8 @@ pub struct Pending {
     pub len: usize,
 }
 
-// What one read brought: whether to go on, and what is pending then.
-struct Turn {
+// What is pending after a read, and whether to go on.
+struct AfterRead {
     more: bool,
     pending: Pending,
 }
@@ -53,9 +54,9 @@ fn take_all(pending: Pending, line: &mut [u8]) -> Pending
     let mut kept = pending;
     let mut left: u64 = 9223372036854775808;
     while 0 < left {
-        let turn = read_some(kept, line);
-        kept = turn.pending;
-        if !turn.more {
+        let after = read_some(kept, line);
+        kept = after.pending;
+        if !after.more {
             return kept;
         }
         left -= 1;
@@ -73,19 +74,28 @@ fn end_input(pending: Pending, line: &[u8])
     }
 }
 
-// One read.
-fn read_some(pending: Pending, line: &mut [u8]) -> Turn
+// One read. Where it fails, a line that had begun is left out: its end is not known.
+fn read_some(pending: Pending, line: &mut [u8]) -> AfterRead
     requires { ⌜ pending .len ≤ length (now line) ⌝ }
     ensures { λ r. ⌜ r .pending .len ≤ length (now (line .exit)) ⌝ }
 {
     let mut bytes = io::buffer();
     let got = libc::read(STDIN_FILENO, &mut bytes);
     if got < 0 {
-        os::fail(b"standard input");
+        let chart = pending.chart;
+        say_failure(
+            b"standard input cannot be read",
+            os::errno(),
+            b"; the rest was not done",
+        );
+        return AfterRead {
+            more: false,
+            pending: Pending { chart, len: 0 },
+        };
     }
     let n = io::count(got, &bytes);
     let after = take_bytes(pending, &bytes[..n], line);
-    Turn {
+    AfterRead {
         more: 0 < n,
         pending: after,
     }

@@ -92,7 +92,7 @@ scaled-value s (suc m) e t h =
 
 -- ---- a double of the size a / c, below 2 ^ 63
 
--- what the code learns of y, where its whole part is z
+-- what the code's tests show of y, where its whole part is z
 record Between (y : Float) (z : ℤ) : Type 0 where
   low : lt (bound true) y ≡ true
   high : lt y (bound false) ≡ true
@@ -197,7 +197,7 @@ held-none : (x : Float) → 2 ^ 63 ≤ natAbs (partsIn x) → partsHeld x ≡ po
 unfolding partsHeld
 held-none x h = rw (le-ltb (natAbs (partsIn x)) (2 ^ 63) h)
 
--- k is held, and the code learns it; or it is not, and a comparison says so
+-- k is held, and the code's tests show it; or it is not, and a comparison says so
 data Scaled (x : Float) : Type 0 where
   held : Between (scaled x) (partsHeld x) → Scaled x
   too-high : lt (scaled x) (bound false) ≡ false → partsHeld x ≡ pos 0 → Scaled x
