@@ -1,5 +1,5 @@
 -- The fields of a line, what is wrong with them, the words and the bytes in them, and the commands' names; what a line is; what a command
--- replies.
+-- replies, and the room that it takes.
 mod Fields
 mod FirstFault
 mod WordsPut
@@ -8,3 +8,4 @@ mod NamesTried
 mod Lines
 mod Replying
 mod Writing
+mod Room

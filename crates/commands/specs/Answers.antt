@@ -15,21 +15,25 @@ use Rattle.store.specs.declared.ReadAnswer.the-variants as read
 use Rattle.guide.specs.Word.{wordAlone}
 use Rattle.parsing.specs.Fields.{fieldsOf}
 use Rattle.parsing.specs.Number.{FieldNumber, numberSays, kindOf, readingOf}
-use Rattle.printing.specs.Output.{Puts}
+use Rattle.printing.specs.Output.{Puts, Front}
 use Rattle.commands.specs.declared.Answered.{Answered}
 use Rattle.commands.specs.declared.numbers.NumberAt.{NumberAt}
 use Rattle.commands.specs.declared.numbers.Readings.{Readings}
 use Rattle.replies.specs.Faults.{missingNumber}
 use Rattle.replies.specs.Texts.{formedText}
 use Rattle.commands.specs.Command.{Line, firstNumber}
-use Rattle.commands.specs.Reply.{replyToLine, chartAfterLine, answerToLine}
+use Rattle.commands.specs.Reply.{replyToLine, chartAfterLine, answerToLine, answerMost}
 
 -- the contract of answering a line: the chart after it, every byte of the buffer, and how many of them are the answer
 pub record Answers (c : Chart) (line : Line) (before after : List ℕ) (r : Answered) : Type 0 where
   pub chart : r .chart ≡ chartAfterLine c line
   pub text : Puts before 0 (answerToLine c line) after (r .size)
 
--- the same without the line feed
+-- a buffer that has room for every answer holds all of it, and the bytes behind it are as they were
+abbrev pub AnswersInFull : Chart → Line → List ℕ → List ℕ → Answered → Type 0
+AnswersInFull c line before after r = answerMost ≤ length before → Front before (answerToLine c line) after (r .size)
+
+-- the same as `Answers`, without the line feed
 pub record Replies (c : Chart) (line : Line) (before after : List ℕ) (r : Answered) : Type 0 where
   pub chart : r .chart ≡ chartAfterLine c line
   pub text : Puts before 0 (replyToLine c line) after (r .size)

@@ -74,3 +74,7 @@ abbrev pub answerToLine : Chart → Line → List ℕ
 answerToLine chart command.passedOver = []
 answerToLine chart (command.faulty n) = faultText n ++ (10 ∷ [])
 answerToLine chart (command.asked c) = replyTo chart c ++ (10 ∷ [])
+
+-- room for every answer (`answer-room` in `proofs/Room`)
+abbrev pub answerMost : ℕ
+answerMost = 4096

@@ -44,7 +44,7 @@ ghost use Rattle.commands.specs.declared.names.Name.the-variants as name
 ghost use Rattle.commands.specs.Command.{lineMost, faulty, asked, commandFor, lineIn, isBuild};
 ghost use Rattle.commands.specs.Command as command;
 ghost use Rattle.commands.specs.Reply.{replyTo};
-ghost use Rattle.commands.specs.Answers.{Answers, Replies, fieldsFrom, afterBuild, afterRead, wordReply};
+ghost use Rattle.commands.specs.Answers.{Answers, AnswersInFull, Replies, fieldsFrom, afterBuild, afterRead, wordReply};
 
 // The most bytes of a line.
 pub const LINE_MOST: usize = 8191;
@@ -61,9 +61,10 @@ pub struct Answered {
     pub size: usize,
 }
 
-// Does the command of a line, and puts its answer at the front of a buffer.
+// Does the command of a line, and puts its answer at the front of a buffer. A buffer of 4,096 bytes has room for all of it.
 pub fn answer_line(chart: Chart, line: &[u8], out: &mut [u8]) -> Answered
     ensures { λ r. ⌜ Answers chart (lineIn (now (line .entry))) (now (out .entry)) (now (out .exit)) r ⌝ }
+    ensures { λ r. ⌜ AnswersInFull chart (lineIn (now (line .entry))) (now (out .entry)) (now (out .exit)) r ⌝ }
 {
     if LINE_MOST < line.len() {
         return answer_fault(chart, LINE_TOO_LONG, out);

@@ -14,6 +14,7 @@ pub mod InOrder
 pub mod LastWords
 pub mod Verdict
 pub mod Soundness
+pub mod Building
 pub mod Machine
 pub mod Bytes
 pub mod Reading

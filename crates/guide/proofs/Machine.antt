@@ -75,7 +75,7 @@ two-within : (t u : Bool) (n m : ℕ) → n ≤ lastRefusal → m ≤ lastRefusa
 two-within t u n m h k = require-ind (λ k. k ≤ lastRefusal) t n _ (λ _. one-within u m k) (λ _. h)
 
 -- a reading gives a word in its kind's range, or a refusal
-reading-ind : (kind : ℕ) (a b c : ℤ) (P : word.Formed → Type 0)
+pub reading-ind : (kind : ℕ) (a b c : ℤ) (P : word.Formed → Type 0)
     → ((w : ℤ) → inRange kind w ≡ true → P (word.formed w)) → ((n : ℕ) → n ≤ lastRefusal → P (word.refused n))
     → P (word.fromReading kind a b c)
 unfolding word.fromReading
@@ -297,10 +297,10 @@ step-not-fourteen s call e = omega (arith, step-refusal s call, ap refusalNumber
 -- ---- a renewal's counts
 
 -- what `renewed-small` says of an answer
-abbrev SmallCounts : Answer → Type 0
+abbrev pub SmallCounts : Answer → Type 0
 SmallCounts answer = (rounds removed : ℕ) → answer ≡ renewed rounds removed → (rounds ≤ suc baseWanted) × (removed ≤ baseWanted)
 
-renewing-small : (s : State) → baseWanted ≤ length (s .base) + length (s .series) → SmallCounts (renewing s .answer)
+pub renewing-small : (s : State) → baseWanted ≤ length (s .base) + length (s .series) → SmallCounts (renewing s .answer)
 unfolding renewing
 renewing-small s enough rounds removed e =
     let words = lastWords baseWanted (s .base ++ s .series) in

@@ -198,14 +198,14 @@ module _ (kind : ℕ) (words : List ℤ) (is-kind : isKind kind ≡ true) (in-ra
 -- ---- building
 
 -- what building is declined for does not apply
-record CanBuild (kind : ℕ) (words : List ℤ) : Type 0 where
-  is-kind : isKind kind ≡ true
-  least : baseWanted ≤ length words
-  most : length words ≤ baseMost
-  in-range : allInRange kind words ≡ true
+pub record CanBuild (kind : ℕ) (words : List ℤ) : Type 0 where
+  pub is-kind : isKind kind ≡ true
+  pub least : baseWanted ≤ length words
+  pub most : length words ≤ baseMost
+  pub in-range : allInRange kind words ≡ true
 
 -- .. by the number of the refusal
-can-build : (kind : ℕ) (words : List ℤ) → buildRefusal kind words ≡ 0 → CanBuild kind words
+pub can-build : (kind : ℕ) (words : List ℤ) → buildRefusal kind words ≡ 0 → CanBuild kind words
 unfolding buildRefusal isBuildCount
 can-build kind words h =
     let kinds = require-zero (isKind kind) 0 _ h in

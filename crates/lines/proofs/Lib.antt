@@ -3,7 +3,7 @@ mod Bisection
 mod Deviations
 mod LineParts
 mod Doubles
-mod PartsHeld
+pub mod PartsHeld
 pub mod Comparing
 pub mod ChartLines
 pub mod HeldLines

@@ -22,6 +22,7 @@ use Rattle.guide.specs.Sizes.{lineParts}
 use Rattle.guide.specs.Choice.{choose}
 use Rattle.guide.specs.Double.{partsIn}
 use Rattle.guide.proofs.Booleans.{by-test}
+use Rattle.guide.proofs.Choice.{choose-ind}
 use Rattle.guide.proofs.Held.{small-fits}
 use Rattle.guide.proofs.Integers.{by-order, magnitude-negated}
 use Rattle.lines.specs.Lines.{partsHeld}
@@ -235,12 +236,14 @@ pub less-or-equal : (x y : Float) → lt x y ≡ true → T (le x y)
 unfolding le
 less-or-equal x y h = rw h tt
 
-held-fits : (x : Float) → SFits w64 (partsHeld x)
+pub held-small : (x : Float) → natAbs (partsHeld x) < 2 ^ 63
 unfolding partsHeld
-held-fits x =
-    by-test (ltb (natAbs (partsIn x)) (2 ^ 63))
-    (λ g. rw g (small-fits (ltb-true (natAbs (partsIn x)) (2 ^ 63) g)))
-    (λ g. rw g (small-fits (lit< tt)))
+held-small x =
+    let size = natAbs (partsIn x) in
+    choose-ind (λ k. natAbs k < 2 ^ 63) (ltb size (2 ^ 63)) (partsIn x) (pos 0) (λ t. ltb-true size (2 ^ 63) t) (λ _. lit< tt)
+
+held-fits : (x : Float) → SFits w64 (partsHeld x)
+held-fits x = small-fits (held-small x)
 
 module _ (x : Float) (t : fits binary64 x ≡ true) where
   pub held-between : (r : ℤ) → lt (bound true) (scaled x) ≡ true → lt (scaled x) (bound false) ≡ true → r ≡ toSigned 63 (scaled x)

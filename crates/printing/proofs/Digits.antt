@@ -61,18 +61,19 @@ decimal-length (suc (suc k)) n h p =
     let less : n / 10 < 10 ^ suc k = let h = rw (pow-suc 10 (suc k)) at h in omega arith in
     rw (decimal-more n (ltb-false n 10 t), length-append) (omega (arith, decimal-length (suc k) (n / 10) less (omega arith))))
 
-pub signed-length : (z : ℤ) → natAbs z < 2 ^ 64 → length (signedDecimal z) ≤ 21
+pub signed-length : (k : ℕ) (z : ℤ) → natAbs z < 10 ^ k → 0 < k → length (signedDecimal z) ≤ suc k
 unfolding signedDecimal
-signed-length (pos n) h = omega (arith, decimal-length 20 n (omega arith) (omega arith))
-signed-length (negsuc n) h = omega (arith, decimal-length 20 (suc n) (omega arith) (omega arith))
+signed-length k (pos n) h p = omega (arith, decimal-length k n h p)
+signed-length k (negsuc n) h p = omega (arith, decimal-length k (suc n) h p)
 
-pub spaced-words-length : (ws : List ℤ) → ((i : ℕ) → i < length ws → natAbs (getD ws i (pos 0)) < 2 ^ 64)
-    → length (spacedWords ws) ≤ 22 * length ws
+-- words of sixteen bits have at most five digits: with a minus sign and a blank at most seven characters
+pub spaced-words-length : (ws : List ℤ) → ((i : ℕ) → i < length ws → natAbs (getD ws i (pos 0)) < 10 ^ 5)
+    → length (spacedWords ws) ≤ 7 * length ws
 unfolding spacedWords
 spaced-words-length [] h = omega arith
 spaced-words-length (w ∷ ws) h =
     let rest = spaced-words-length ws (λ i less. h (suc i) (omega arith)) in
-    rw length-append (omega (arith, rest, signed-length w (h 0 (omega arith))))
+    rw length-append (omega (arith, rest, signed-length 5 w (h 0 (omega arith)) (omega arith)))
 
 pub last-digits-length : (count n : ℕ) → length (lastDigits count n) ≡ count
 unfolding lastDigits

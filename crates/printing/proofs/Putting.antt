@@ -12,7 +12,7 @@ use lib.Dec.{ltb}
 use lib.ListN.{length, take, drop, set, getD, length-set}
 use lib.Seq.{sets, sets-eq, take-suc, take-all}
 use Rattle.guide.proofs.Choice.{choose-ind}
-use Rattle.printing.specs.Output.{Output, output, putByte, putAll, Puts}
+use Rattle.printing.specs.Output.{Output, output, putByte, putAll, Puts, Front}
 
 -- ---- none, and a byte
 
@@ -123,10 +123,6 @@ puts-room {before} {after} {at} {next} x room puts =
     }
 
 -- at the front of the buffer
-pub record Front (before x after : List ℕ) (next : ℕ) : Type 0 where
-  pub bytes : after ≡ x ++ drop (length x) before
-  pub place : next ≡ length x
-
 pub puts-front : {before after : List ℕ} {next : ℕ} (x : List ℕ) → length x ≤ length before
     → Puts before 0 x after next → Front before x after next
 puts-front {before} x room puts =

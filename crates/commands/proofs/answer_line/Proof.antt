@@ -5,8 +5,24 @@ use borrow.Author.Tests.{eq-eqb, ne-eqb}
 use borrow.Author.Needs.{needs}
 use Rattle.printing.proofs.Putting.{puts-none}
 use Rattle.commands.proofs.Lines.{too-long, no-field, a-comment, a-fault, no-fault, line-fed}
+use Rattle.commands.proofs.Room.{words-short, IsTyped, in-full}
 use Rattle.commands.proofs.answer_line.Statement.{statement}
 use Rattle.commands.proofs.answer_line.Tie as tie
+
+-- what the chart's type says
+typed : (c : tie.After-slice-known) → IsTyped (c .before .before .args .chart)
+typed c =
+    let chart = c .before .before .args .chart in
+    let held = c .before .before .good .0 .1 .1 in
+    record {
+      kind = omega (arith, held .0 .1);
+      status = omega (arith, held .1 .1 .1 .1 .1 .0 .1);
+      verdict = omega (arith, held .1 .1 .1 .1 .1 .1 .0 .1);
+      base-places = search needs;
+      series-places = search needs;
+      base = words-short (chart .base) _ (held .1 .0 .1 .1);
+      series = words-short (chart .series) _ (held .1 .1 .1 .0 .1 .1);
+    }
 
 answer-fault-requires : tie.Need-answer-fault-requires
 answer-fault-requires c κs = search needs
@@ -17,7 +33,8 @@ same-length c = search needs
 returns : tie.Need-returns
 returns c =
     let call = c .before .before in
-    rw (too-long _ (call .before .before .if1 .taken)) (call .answer-fault .ensures)
+    let tested = call .before .before in
+    in-full _ (typed (tested .before)) _ _ (rw (too-long _ (tested .if1 .taken)) (call .answer-fault .ensures))
 
 first-field-requires : tie.Need-first-field-requires
 first-field-requires c κs = search needs
@@ -25,8 +42,9 @@ first-field-requires c κs = search needs
 returns-2 : tie.Need-returns-2
 returns-2 c =
     let field = c .before .first-field .ensures in
-    let short = c .before .before .if1 .left in
-    rw (no-field _ _ _ short field (c .if2 .taken)) (record { chart = refl; text = puts-none _ _ })
+    let tested = c .before .before in
+    in-full _ (typed (tested .before)) _ _
+    (rw (no-field _ _ _ (tested .if1 .left) field (c .if2 .taken)) (record { chart = refl; text = puts-none _ _ }))
 
 shared-slice-read-if3 : tie.Need-shared-slice-read-if3
 shared-slice-read-if3 c = search needs
@@ -35,9 +53,10 @@ returns-3 : tie.Need-returns-3
 returns-3 c =
     let at-byte = c .before .before in
     let field = at-byte .before .first-field .ensures in
-    let short = at-byte .before .before .if1 .left in
-    rw (a-comment _ _ _ short field (omega (arith, at-byte .if2 .left)) (eq-eqb _ _ (c .if3 .taken)))
-    (record { chart = refl; text = puts-none _ _ })
+    let tested = at-byte .before .before in
+    in-full _ (typed (tested .before)) _ _
+    (rw (a-comment _ _ _ (tested .if1 .left) field (omega (arith, at-byte .if2 .left)) (eq-eqb _ _ (c .if3 .taken)))
+    (record { chart = refl; text = puts-none _ _ }))
 
 sub-name-in : tie.Need-sub-name-in
 sub-name-in c = search needs
@@ -68,9 +87,10 @@ returns-4 c =
     let no-comment = named .before .before in
     let at-byte = no-comment .before .before in
     let field = at-byte .before .first-field .ensures in
-    let short = at-byte .before .before .if1 .left in
-    rw (a-fault _ _ _ short field (omega (arith, at-byte .if2 .left)) (ne-eqb _ _ (no-comment .if3 .left)) _ (named .name-in .ensures)
-    _ (fault .fault-for .ensures) (call .before .before .if4 .taken)) (call .answer-fault2 .ensures)
+    let tested = at-byte .before .before in
+    in-full _ (typed (tested .before)) _ _
+    (rw (a-fault _ _ _ (tested .if1 .left) field (omega (arith, at-byte .if2 .left)) (ne-eqb _ _ (no-comment .if3 .left)) _
+    (named .name-in .ensures) _ (fault .fault-for .ensures) (call .before .before .if4 .taken)) (call .answer-fault2 .ensures))
 
 perform-requires : tie.Need-perform-requires
 perform-requires c κs = search needs
@@ -85,15 +105,17 @@ returns-5 : tie.Need-returns-5
 returns-5 c =
     let feed = c .before .before in
     let call = feed .before .before .before .before .before in
-    let tested = call .before .before in
-    let fault = tested .before in
+    let no-fault-found = call .before .before in
+    let fault = no-fault-found .before in
     let named = fault .before in
     let no-comment = named .before .before in
     let at-byte = no-comment .before .before in
     let field = at-byte .before .first-field .ensures in
-    let short = at-byte .before .before .if1 .left in
-    rw (no-fault _ _ _ short field (omega (arith, at-byte .if2 .left)) (ne-eqb _ _ (no-comment .if3 .left)) _ (named .name-in .ensures)
-    _ (fault .fault-for .ensures) (tested .if4 .left)) (line-fed _ _ _ (call .perform .ensures) (feed .put-byte .ensures))
+    let tested = at-byte .before .before in
+    in-full _ (typed (tested .before)) _ _
+    (rw (no-fault _ _ _ (tested .if1 .left) field (omega (arith, at-byte .if2 .left)) (ne-eqb _ _ (no-comment .if3 .left)) _
+    (named .name-in .ensures) _ (fault .fault-for .ensures) (no-fault-found .if4 .left))
+    (line-fed _ _ _ (call .perform .ensures) (feed .put-byte .ensures)))
 
 pub answer-line-spec : {M : Type 1} → statement M
 answer-line-spec =
