@@ -1,5 +1,5 @@
 -- The fields of a line, what is wrong with them, the words and the bytes in them, and the commands' names; what a line is; what a command
--- replies, and the room that it takes.
+-- replies, and the room that it takes; that `read` takes what `write` prints.
 mod Fields
 mod FirstFault
 mod WordsPut
@@ -9,3 +9,4 @@ mod Lines
 mod Replying
 mod Writing
 mod Room
+pub mod ReadBack

@@ -18,7 +18,7 @@ ghost use lib.Dec.{ltb};
 ghost use Rattle.guide.specs.Choice.{choose};
 ghost use Rattle.io.specs.Counts.{Counts};
 ghost use Rattle.commands.specs.Command.{lineIn};
-ghost use Rattle.commands.specs.Answers.{Answers};
+ghost use Rattle.commands.specs.Answers.{Answers, AnswersInFull};
 
 // Room for the longest line, a carriage return, and one byte by which a longer line is known.
 pub const LINE_ROOM: usize = LINE_MOST + 2;
@@ -158,9 +158,10 @@ fn answered(chart: Chart, line: &[u8]) -> Pending
     }
 }
 
-// Answers a line; the answer lies within the buffer.
+// Answers a line; the answer lies within the buffer, and one of ANSWER_MOST bytes holds all of it.
 pub fn answer(chart: Chart, line: &[u8], out: &mut [u8]) -> Answered
     ensures { λ r. ⌜ Answers chart (lineIn (now (line .entry))) (now (out .entry)) (now (out .exit)) r ⌝ }
+    ensures { λ r. ⌜ AnswersInFull chart (lineIn (now (line .entry))) (now (out .entry)) (now (out .exit)) r ⌝ }
     ensures { λ r. ⌜ Counts (r .size) (now (out .exit)) ⌝ }
 {
     answer_line(chart, line, out)

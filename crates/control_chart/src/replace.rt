@@ -3,7 +3,11 @@
 use crate::say::say_failure;
 use printing::numbers::put_decimal;
 use printing::put_text;
+ghost use mathlib.Core.Path.{_≡_};
+ghost use lib.Dec.{eqb};
+ghost use lib.IntN.{pos, natAbs};
 ghost use Rattle.io.specs.Counts.{Counts};
+ghost use Rattle.guide.specs.Choice.{choose};
 
 // Whether it was done. If not, it is said why, and the file is as it was.
 pub fn replace_file(path: &[u8], form: &[u8]) -> bool {
@@ -87,7 +91,9 @@ fn write_synced(fd: i32, bytes: &[u8]) -> i32 {
 }
 
 // A failure that the system gave no number for is one of the disk.
-fn failure(error: i32) -> i32 {
+fn failure(error: i32) -> i32
+    ensures { λ r. ⌜ r ≡ choose (eqb (natAbs error) 0) (pos 5) error ⌝ }
+{
     if error == 0 { libc::EIO } else { error }
 }
 

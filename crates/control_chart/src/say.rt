@@ -1,5 +1,9 @@
 // Text to standard output.
 use libc::STDOUT_FILENO;
+ghost use mathlib.Core.Path.{_≡_};
+ghost use lib.IntN.{pos, natAbs};
+ghost use lib.Signed.{ltZ};
+ghost use Rattle.guide.specs.Choice.{choose};
 
 pub fn say(text: &[u8]) {
     io::write_all(STDOUT_FILENO, text);
@@ -17,7 +21,9 @@ pub fn say_failure(what: &[u8], error: i32, advice: &[u8]) {
 }
 
 // errno is never negative.
-fn error_number(error: i32) -> u64 {
+fn error_number(error: i32) -> u64
+    ensures { λ r. ⌜ r ≡ choose (ltZ error (pos 0)) 0 (natAbs error) ⌝ }
+{
     if error < 0 {
         return 0;
     }

@@ -18,6 +18,7 @@ pub mod Building
 pub mod Machine
 pub mod Bytes
 pub mod Reading
+pub mod StoredForm
 pub mod SquareRoot
 pub mod Double
 pub mod Lines
