@@ -1,27 +1,29 @@
--- `read` takes what `write` prints, and gives the chart that was written (`read-back`).
+-- The line `read` with the digits that `write` prints of a sound chart is a command without fault, and gives the chart that was written
+-- (`read-back`).
 use mathlib.Core.Path.{_≡_, refl, ap, _∙_}
 use mathlib.Core.Bool.{true, false}
-use mathlib.Core.List.{List, [], _∷_}
+use mathlib.Core.List.{List, [], _∷_, _++_}
 use Prim.Native.Nat.{ℕ, _+_, _*_, _/_, _%_, _<_, _≤_}
 use native.Mathlib.Omega.{arith}
-use borrow.Author.Tests.{le-leb, lt-leb, ltb-true, ltb-false, eq-eqb}
+use borrow.Author.Tests.{le-leb, lt-leb, ltb-true, ltb-false, eq-eqb, ne-eqb}
 use lib.Dec.{ltb}
-use lib.ListN.{length}
+use lib.ListN.{length, length-append}
 use Rattle.guide.specs.StoredForm.{storedForm}
-use Rattle.guide.specs.Reading.{reading}
 use Rattle.guide.proofs.Booleans.{by-test}
-use Rattle.guide.proofs.Reading.{read-stored}
+use Rattle.guide.proofs.Soundness.{sound-facts}
+use Rattle.guide.proofs.Reading.{length-form, read-stored}
 use Rattle.guide.proofs.StoredForm.{AllBelow, stored-bytes}
 use Rattle.chart.specs.declared.Chart.{Chart}
 use Rattle.chart.specs.Chart.{stateOf}
 use Rattle.chart.proofs.State.{Given, chart-of-state}
 use Rattle.parsing.specs.Bytes.{allBytes, sameBytes}
+use Rattle.parsing.specs.Fields.{isBlank, inFront, fieldsOf}
 use Rattle.parsing.specs.Number.{isDigit}
 use Rattle.parsing.specs.Hex.{isLowerHex, isHex, areHex, hexValue, bytesOfHex}
 use Rattle.printing.specs.Hex.{hexDigit, hexOf}
 use Rattle.printing.proofs.HexDigits.{hex-length, hex-figure, hex-letter}
 use Rattle.replies.specs.Ascii.{ascii}
-use Rattle.commands.specs.Command.{asked, lineOf, nameIn, namedLine, faultFor, readFault, hexFault, commandFor}
+use Rattle.commands.specs.Command.{lineMost, asked, readFault, hexFault, faultFor, commandFor, nameIn, namedLine, lineOf, lineIn}
 use Rattle.commands.specs.Command as command
 use Rattle.commands.specs.Reply.{chartRead, chartAfterCommand}
 
@@ -30,16 +32,21 @@ use Rattle.commands.specs.Reply.{chartRead, chartAfterCommand}
 record Printed (d : ℕ) : Type 0 where
   is-hex : isHex (hexDigit d) ≡ true
   value : hexValue (hexDigit d) ≡ d
+  no-blank : isBlank (hexDigit d) ≡ false
 
 printed-figure : (d : ℕ) → d < 10 → Printed d
-unfolding isHex hexValue isDigit
+unfolding isHex hexValue isDigit isBlank
 printed-figure d h =
     let low = le-leb 48 (48 + d) (omega arith) in
     let high = le-leb (48 + d) 57 (omega arith) in
-    record { is-hex = rw (hex-figure d h, low, high); value = rw (hex-figure d h, low, high) (omega arith) }
+    record {
+      is-hex = rw (hex-figure d h, low, high);
+      value = rw (hex-figure d h, low, high) (omega arith);
+      no-blank = rw (hex-figure d h, ne-eqb (48 + d) 32 (λ e. omega arith), ne-eqb (48 + d) 9 (λ e. omega arith));
+    }
 
 printed-letter : (d : ℕ) → 10 ≤ d → d < 16 → Printed d
-unfolding isHex hexValue isDigit isLowerHex
+unfolding isHex hexValue isDigit isLowerHex isBlank
 printed-letter d h k =
     let no-digit = lt-leb (87 + d) 57 (omega arith) in
     let digit-low = le-leb 48 (87 + d) (omega arith) in
@@ -48,6 +55,7 @@ printed-letter d h k =
     record {
       is-hex = rw (hex-letter d h, digit-low, no-digit, low, high);
       value = rw (hex-letter d h, digit-low, no-digit, low, high) (omega arith);
+      no-blank = rw (hex-letter d h, ne-eqb (87 + d) 32 (λ e. omega arith), ne-eqb (87 + d) 9 (λ e. omega arith));
     }
 
 printed : (d : ℕ) → d < 16 → Printed d
@@ -56,40 +64,80 @@ printed d h =
     (λ t. printed-figure d (ltb-true d 10 t))
     (λ t. printed-letter d (ltb-false d 10 t) h)
 
+-- the two digits of a byte
+higher : (b : ℕ) → b < 256 → Printed (b / 16)
+higher b h = printed (b / 16) (omega arith)
+
+lower : (b : ℕ) → Printed (b % 16)
+lower b = printed (b % 16) (omega arith)
+
 -- ---- so it is with bytes
 
 hex-is-hex : (bytes : List ℕ) → AllBelow 256 bytes → areHex (hexOf bytes) ≡ true
 unfolding areHex allBytes hexOf
 hex-is-hex [] h = refl
-hex-is-hex (b ∷ bytes) h =
-    rw (printed (b / 16) (omega (arith, h .0)) .is-hex, printed (b % 16) (omega arith) .is-hex) (hex-is-hex bytes (h .1))
+hex-is-hex (b ∷ bytes) h = rw (higher b (h .0) .is-hex, lower b .is-hex) (hex-is-hex bytes (h .1))
 
 hex-back : (bytes : List ℕ) → AllBelow 256 bytes → bytesOfHex (hexOf bytes) ≡ bytes
 unfolding bytesOfHex hexOf
 hex-back [] h = refl
 hex-back (b ∷ bytes) h =
-    let higher = printed (b / 16) (omega (arith, h .0)) .value in
-    let lower = printed (b % 16) (omega arith) .value in
     let byte : b / 16 * 16 + b % 16 ≡ b = omega arith in
-    rw (higher, lower, byte, hex-back bytes (h .1))
+    rw (higher b (h .0) .value, lower b .value, byte, hex-back bytes (h .1))
 
--- ---- the line that has the name and the digits
+-- digits are one field
+same-field : (b next : ℕ) (rest : List ℕ) → isBlank b ≡ false → isBlank next ≡ false
+    → fieldsOf (b ∷ next ∷ rest) ≡ inFront b (fieldsOf (next ∷ rest))
+unfolding fieldsOf
+same-field b next rest t u = rw (t, u)
 
-module _ (bytes : List ℕ) (h : AllBelow 256 bytes) where
-  no-fault : readFault (hexOf bytes ∷ []) ≡ 0
+hex-field : (b : ℕ) (bytes : List ℕ) → b < 256 → AllBelow 256 bytes → fieldsOf (hexOf (b ∷ bytes)) ≡ hexOf (b ∷ bytes) ∷ []
+unfolding hexOf fieldsOf
+hex-field b [] h k = rw (higher b h .no-blank, lower b .no-blank)
+hex-field b (c ∷ bytes) h k =
+    let rest = hexDigit (c % 16) ∷ hexOf bytes in
+    let next = same-field (hexDigit (b % 16)) (hexDigit (c / 16)) rest (lower b .no-blank) (higher c (k .0) .no-blank) in
+    same-field (hexDigit (b / 16)) (hexDigit (b % 16)) (hexDigit (c / 16) ∷ rest) (higher b h .no-blank) (lower b .no-blank)
+    ∙ ap (inFront (hexDigit (b / 16))) (next ∙ ap (inFront (hexDigit (b % 16))) (hex-field c bytes (k .0) (k .1)))
+
+-- ---- the line
+
+module _ (b : ℕ) (bytes : List ℕ) (h : AllBelow 256 (b ∷ bytes)) where
+  fields-are : fieldsOf (ascii "read " ++ hexOf (b ∷ bytes)) ≡ ascii "read" ∷ hexOf (b ∷ bytes) ∷ []
+  unfolding fieldsOf isBlank
+  fields-are = ap (λ (fields : List (List ℕ)). ascii "read" ∷ fields) (hex-field b bytes (h .0) (h .1))
+
+  no-fault : readFault (hexOf (b ∷ bytes) ∷ []) ≡ 0
   unfolding readFault hexFault
   no-fault =
-      let even : length (hexOf bytes) % 2 ≡ 0 = omega (arith, hex-length bytes) in
-      rw (hex-is-hex bytes h, eq-eqb (length (hexOf bytes) % 2) 0 even)
+      let digits = hexOf (b ∷ bytes) in
+      let even : length digits % 2 ≡ 0 = omega (arith, hex-length (b ∷ bytes)) in
+      rw (hex-is-hex (b ∷ bytes) h, eq-eqb (length digits % 2) 0 even)
 
-  read-line : lineOf (ascii "read" ∷ hexOf bytes ∷ []) ≡ asked (command.read bytes)
+  fields-read : lineOf (ascii "read" ∷ hexOf (b ∷ bytes) ∷ []) ≡ asked (command.read (b ∷ bytes))
   unfolding lineOf nameIn namedLine faultFor commandFor sameBytes
-  read-line = rw (no-fault, hex-back bytes h)
+  fields-read = rw (no-fault, hex-back (b ∷ bytes) h)
+
+-- bytes that fit in a line
+read-line : (bytes : List ℕ) → AllBelow 256 bytes → 1 ≤ length bytes → length bytes ≤ 4000
+    → lineIn (ascii "read " ++ hexOf bytes) ≡ asked (command.read bytes)
+unfolding lineIn
+read-line [] h some few = absurd (omega arith)
+read-line (b ∷ bytes) h some few =
+    let line = ascii "read " ++ hexOf (b ∷ bytes) in
+    let short : length line ≤ lineMost = rw length-append (omega (arith, hex-length (b ∷ bytes))) in
+    rw (le-leb (length line) lineMost short) (ap lineOf (fields-are b bytes h) ∙ fields-read b bytes h)
 
 pub read-back : (chart c : Chart) → Given c → let form = storedForm (stateOf c) in
-    (lineOf (ascii "read" ∷ hexOf form ∷ []) ≡ asked (command.read form)) × (chartAfterCommand chart (command.read form) ≡ c)
+    (lineIn (ascii "read " ++ hexOf form) ≡ asked (command.read form)) × (chartAfterCommand chart (command.read form) ≡ c)
 unfolding chartAfterCommand
 read-back chart c g =
-    let form = storedForm (stateOf c) in
-    let read = read-stored (stateOf c) (g .facts .state) in
-    (read-line form (stored-bytes (stateOf c) (g .facts .state)), ap (chartRead chart) read ∙ chart-of-state c g)
+    let s = stateOf c in
+    let sound = g .facts .state in
+    let facts = sound-facts s sound in
+    let base = facts .base-most in
+    let series = facts .series-most in
+    let size = length-form s in (
+      read-line (storedForm s) (stored-bytes s sound) (omega arith) (omega arith),
+      ap (chartRead chart) (read-stored s sound) ∙ chart-of-state c g,
+    )
