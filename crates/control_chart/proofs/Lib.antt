@@ -1,2 +1,4 @@
--- Laws of places within buffers.
+-- Laws of places within buffers, of a line that is cut, and of the input as it is taken.
 mod Places
+mod Cutting
+mod Taking

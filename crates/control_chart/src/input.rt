@@ -18,7 +18,9 @@ ghost use lib.Dec.{ltb};
 ghost use Rattle.guide.specs.Choice.{choose};
 ghost use Rattle.io.specs.Counts.{Counts};
 ghost use Rattle.commands.specs.Command.{lineIn};
+ghost use Rattle.commands.specs.Reply.{chartAfterLine};
 ghost use Rattle.commands.specs.Answers.{Answers, AnswersInFull};
+ghost use Rattle.control_chart.specs.Input.{chartAfterEnded, withPart, withBytes, Follows};
 
 // Room for the longest line, a carriage return, and one byte by which a longer line is known.
 pub const LINE_ROOM: usize = LINE_MOST + 2;
@@ -105,6 +107,7 @@ fn read_some(pending: Pending, line: &mut [u8]) -> AfterRead
 fn take_bytes(pending: Pending, bytes: &[u8], line: &mut [u8]) -> Pending
     requires { ⌜ pending .len ≤ length (now line) ⌝ }
     ensures { λ r. ⌜ r .len ≤ length (now (line .exit)) ⌝ }
+    ensures { λ r. ⌜ Follows (λ s. withBytes s (now (bytes .entry))) pending (now (line .entry)) r (now (line .exit)) ⌝ }
 {
     let mut kept = pending;
     let mut at: usize = 0;
@@ -127,6 +130,7 @@ fn after_line_feed(bytes: &[u8], end: usize) -> usize
 fn take_part(pending: Pending, part: &[u8], ends: bool, line: &mut [u8]) -> Pending
     requires { ⌜ pending .len ≤ length (now line) ⌝ }
     ensures { λ r. ⌜ r .len ≤ length (now (line .exit)) ⌝ }
+    ensures { λ r. ⌜ Follows (λ s. withPart s (now (part .entry)) ends) pending (now (line .entry)) r (now (line .exit)) ⌝ }
 {
     let chart = pending.chart;
     let len = put_text(line, pending.len, part);
@@ -137,7 +141,7 @@ fn take_part(pending: Pending, part: &[u8], ends: bool, line: &mut [u8]) -> Pend
 }
 
 fn end_line(chart: Chart, line: &[u8]) -> Pending
-    ensures { λ r. ⌜ r .len ≡ 0 ⌝ }
+    ensures { λ r. ⌜ (r .chart ≡ chartAfterEnded chart (now (line .entry))) × (r .len ≡ 0) ⌝ }
 {
     let n = without_return(line);
     answered(chart, &line[..n])
@@ -145,7 +149,7 @@ fn end_line(chart: Chart, line: &[u8]) -> Pending
 
 // Answers a line, and begins the next.
 fn answered(chart: Chart, line: &[u8]) -> Pending
-    ensures { λ r. ⌜ r .len ≡ 0 ⌝ }
+    ensures { λ r. ⌜ (r .chart ≡ chartAfterLine chart (lineIn (now (line .entry)))) × (r .len ≡ 0) ⌝ }
 {
     let mut out = [0u8; ANSWER_MOST];
     let r = answer(chart, line, &mut out);

@@ -1,17 +1,18 @@
 -- Laws of text put into a buffer: none (`puts-none`), a byte (`puts-byte`, `puts-left-out`), and one text behind the other (`puts-then`).
 -- The buffer keeps its length (`puts-length`), and a place within it stays within (`puts-within`). Where there is room, it holds the
--- text, and all other bytes are as they were (`puts-room`).
+-- text, and all other bytes are as they were (`puts-room`); where there may be none, it holds as much of it as there is room for (`puts-cut`).
 use mathlib.Core.Path.{_≡_, refl, sym, ap, _∙_, subst}
-use mathlib.Core.List.{List, [], _∷_, _++_, append-assoc}
-use Prim.Native.Nat.{ℕ, suc, _+_, _<_, _≤_}
+use mathlib.Core.List.{List, [], _∷_, _++_, append-assoc, append-nil}
+use Prim.Native.Nat.{ℕ, suc, _+_, _<_, _≤_, min}
 use native.Mathlib.Omega.{arith}
 use native.Mathlib.Nat.{zero-add}
 use native.Mathlib.Numerals.{add-one}
 use borrow.Author.Tests.{ltb-true, lt-ltb, le-ltb}
 use lib.Dec.{ltb}
-use lib.ListN.{length, take, drop, set, getD, length-set}
-use lib.Seq.{sets, sets-eq, take-suc, take-all}
+use lib.ListN.{length, take, drop, set, getD, length-set, length-take}
+use lib.Seq.{sets, sets-eq, take-suc, take-suc-set, take-all, take-at}
 use Rattle.guide.proofs.Choice.{choose-ind}
+use Rattle.guide.proofs.Integers.{by-order}
 use Rattle.printing.specs.Output.{Output, output, putByte, putAll, Puts, Front}
 
 -- ---- none, and a byte
@@ -128,3 +129,46 @@ pub puts-front : {before after : List ℕ} {next : ℕ} (x : List ℕ) → lengt
 puts-front {before} x room puts =
     let h = puts-room x (omega arith) puts in
     record { bytes = h .bytes ∙ rw zero-add; place = h .place ∙ zero-add (length x) }
+
+-- ---- what the buffer holds up to the place, where there may be no room for all of the text
+
+pub record Cut (before : List ℕ) (at : ℕ) (x after : List ℕ) (next : ℕ) : Type 0 where
+  pub place : next ≡ min (at + length x) (length before)
+  pub bytes : take next after ≡ take (length before) (take at before ++ x)
+
+abbrev IsCut : (before : List ℕ) (at : ℕ) (x : List ℕ) → Output → Type 0
+IsCut before at x o = Cut before at x (o .bytes) (o .place)
+
+put-cut : (x before : List ℕ) (at : ℕ) → at ≤ length before → IsCut before at x (putAll (output before at) x)
+unfolding putAll
+put-cut [] before at h =
+    let front = take at before in
+    let short : length front ≤ length before = omega (arith, length-take at before) in
+    record { place = omega arith; bytes = sym (ap (take (length before)) (append-nil front) ∙ take-all (length before) front short) }
+put-cut (b ∷ x) before at h =
+    by-order at (length before)
+    (λ full.
+    let rest = put-cut x before at h in
+    let front = take at before in
+    let whole : length front ≡ length before = omega (arith, length-take at before) in
+    subst (λ (o : Output). IsCut before at (b ∷ x) (putAll o x)) (sym (put-out before at b full))
+    (record {
+      place = omega (arith, rest .place);
+      bytes = rest .bytes ∙ take-at front x (length before) whole ∙ sym (take-at front (b ∷ x) (length before) whole);
+    }))
+    (λ room.
+    let rest = put-cut x (set before at b) (at + 1) (rw length-set (omega arith)) in
+    let size = length-set before at b in
+    let front : take (at + 1) (set before at b) ≡ take at before ++ (b ∷ []) = rw add-one (take-suc-set before at b room) in
+    subst (λ (o : Output). IsCut before at (b ∷ x) (putAll o x)) (sym (put-in before at b room))
+    (record {
+      place = omega (arith, rest .place);
+      bytes =
+          rest .bytes ∙ ap (λ (k : ℕ). take k (take (at + 1) (set before at b) ++ x)) size
+          ∙ ap (λ (l : List ℕ). take (length before) (l ++ x)) front
+          ∙ ap (take (length before)) (append-assoc (take at before) (b ∷ []) x);
+    }))
+
+pub puts-cut : {before after x : List ℕ} {at next : ℕ} → at ≤ length before → Puts before at x after next → Cut before at x after next
+puts-cut {before} {after} {x} {at} {next} h puts =
+    subst (IsCut before at x) (sym (puts .same)) (put-cut x before at h)

@@ -4,13 +4,17 @@ use Prim.Native.Nat.{_-_, _≤_, _<_}
 use native.Mathlib.Omega.{arith}
 use borrow.Author.Needs.{needs}
 use denote.Ref.{now}
-use lib.ListN.{length}
+use lib.ListN.{length, take}
+use lib.Seq.{take-all}
+use Rattle.control_chart.specs.Input.{withBytes, Follows}
 use Rattle.control_chart.proofs.Places.{behind-feed}
+use Rattle.control_chart.proofs.Taking.{turn}
 use Rattle.control_chart.proofs.input.take_bytes.Statement.{statement}
 use Rattle.control_chart.proofs.input.take_bytes.Tie as tie
 
 abbrev Inv-loop : tie.InvT-loop
 Inv-loop bytes line₀ kept₀ at₀ line kept at = (kept .len ≤ length line) × (at ≤ length bytes) × (length line ≡ length line₀)
+    × Follows (λ s. withBytes s (take at bytes)) kept₀ line₀ kept line
 
 abbrev μ-loop : tie.MeasureT-loop
 μ-loop bytes line₀ kept₀ at₀ line kept at = length bytes - at
@@ -25,7 +29,8 @@ next-line c =
     (omega arith) (c .after-line-feed .ensures)
 
 loop-holds : tie.Need-loop-holds Inv-loop μ-loop
-loop-holds c = (c .before .before .pre, omega arith, refl)
+unfolding withBytes
+loop-holds c = (c .before .before .pre, omega arith, refl, λ s room held. held)
 
 find-requires : tie.Need-find-requires Inv-loop μ-loop
 find-requires c κs = search needs
@@ -49,13 +54,29 @@ loop-less : tie.Need-loop-less Inv-loop μ-loop
 loop-less c = let feed = next-line c in omega (arith, feed .0)
 
 loop-again : tie.Need-loop-again Inv-loop μ-loop
-loop-again c = (c .before .before .before .take-part .ensures, next-line c .1, search needs)
+loop-again c =
+    let part = c .before .before .before in
+    let found = part .before .before .before in
+    let l = found .before .before in
+    let bytes = now (l .before .before .before .args .bytes) in
+    let at = l .loop .at in
+    let inv = l .loop .inv in (
+      part .take-part .ensures .0,
+      next-line c .1,
+      search needs,
+      λ s room held.
+          rw (turn s bytes at (found .find .result) (c .after-line-feed .result) (inv .1) (found .find .ensures .0) (c .after-line-feed .ensures))
+          (part .take-part .ensures .1 (withBytes s (take at bytes)) (omega (arith, inv .2)) (inv .3 s room held)),
+    )
 
 same-length : tie.Need-same-length Inv-loop μ-loop
 same-length c = c .before .loop .inv .2
 
 returns : tie.Need-returns Inv-loop μ-loop
-returns c = c .before .loop .inv .0
+returns c =
+    let l = c .before in
+    let bytes = now (l .before .before .before .args .bytes) in
+    (l .loop .inv .0, λ s room held. rw (take-all (l .loop .at) bytes (c .loop-test .left)) at (l .loop .inv .3 s room held))
 
 pub take-bytes-spec : {M : Type 1} → statement M
 take-bytes-spec =

@@ -1,7 +1,12 @@
 -- `control_chart::input::take_part` meets its contract.
+use mathlib.Core.Path.{_≡_}
+use mathlib.Core.Bool.{true, false}
+use native.Mathlib.Omega.{arith}
+use borrow.Author.Tests.{not-true, not-false}
 use borrow.Author.Needs.{needs}
 use Rattle.printing.proofs.Putting.{puts-within}
 use Rattle.control_chart.proofs.Places.{text-counts}
+use Rattle.control_chart.proofs.Taking.{held-part, held-end}
 use Rattle.control_chart.proofs.input.take_part.Statement.{statement}
 use Rattle.control_chart.proofs.input.take_part.Tie as tie
 
@@ -13,7 +18,10 @@ same-length c = search needs
 
 returns : tie.Need-returns
 returns c =
-    let put = c .before .before .before in puts-within (put .before .before .before .before .before .pre) (put .put-text .ensures)
+    let put = c .before .before .before in
+    let start = put .before .before .before .before .before in
+    let goes-on : start .args .ends ≡ false = not-true (start .args .ends) (c .if1 .taken) in
+    (puts-within (start .pre) (put .put-text .ensures), λ s room held. rw goes-on (held-part s (start .args .pending) held (put .put-text .ensures)))
 
 slice-reshare-prefix-end-line : tie.Need-slice-reshare-prefix-end-line
 slice-reshare-prefix-end-line c =
@@ -30,7 +38,13 @@ same-length-2 : tie.Need-same-length-2
 same-length-2 c = search needs
 
 returns-2 : tie.Need-returns-2
-returns-2 c = search needs
+returns-2 c =
+    let tested = c .before .before in
+    let put = tested .before .before .before in
+    let start = put .before .before .before .before .before in
+    let ended = c .end-line .ensures in
+    let ends : start .args .ends ≡ true = not-false (start .args .ends) (tested .if1 .left) in
+    (omega (arith, ended .1), λ s room held. rw ends (held-end s (start .args .pending) held (put .put-text .ensures) (c .end-line .result) room (ended .0) (ended .1)))
 
 pub take-part-spec : {M : Type 1} → statement M
 take-part-spec =

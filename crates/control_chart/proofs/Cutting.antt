@@ -1,0 +1,35 @@
+-- A line that is longer than the buffer is too long, whether it is cut or not (`cut-line`).
+use mathlib.Core.Path.{_≡_, sym, ap, _∙_}
+use mathlib.Core.Bool.{true, false}
+use mathlib.Core.List.{List, [], _∷_}
+use Prim.Native.Nat.{ℕ, suc, _+_, _<_, _≤_}
+use native.Mathlib.Omega.{arith}
+use borrow.Author.Tests.{lt-leb}
+use lib.Dec.{eqb}
+use lib.ListN.{length, take, length-take}
+use lib.Seq.{take-all}
+use Rattle.guide.proofs.Choice.{choose-ind}
+use Rattle.guide.proofs.Integers.{by-order}
+use Rattle.parsing.specs.Fields.{withoutReturn}
+use Rattle.commands.specs.Command.{lineMost, faulty, lineIn}
+use Rattle.replies.specs.Faults.{lineTooLong}
+
+-- no more than one byte is taken off
+without-return-length : (line : List ℕ) → length line ≤ suc (length (withoutReturn line))
+unfolding withoutReturn
+without-return-length [] = omega arith
+without-return-length (b ∷ []) =
+    choose-ind (λ (left : List ℕ). 1 ≤ suc (length left)) (eqb b 13) [] (b ∷ []) (λ _. omega arith) (λ _. omega arith)
+without-return-length (b ∷ next ∷ rest) = omega (arith, without-return-length (next ∷ rest))
+
+too-long : (line : List ℕ) → lineMost + 1 < length line → lineIn (withoutReturn line) ≡ faulty lineTooLong
+unfolding lineIn
+too-long line h = rw (lt-leb (length (withoutReturn line)) lineMost (omega (arith, without-return-length line)))
+
+pub cut-line : (n : ℕ) (line : List ℕ) → lineMost + 2 ≤ n → lineIn (withoutReturn (take n line)) ≡ lineIn (withoutReturn line)
+cut-line n line room =
+    by-order n (length line)
+    (λ h. ap (λ (l : List ℕ). lineIn (withoutReturn l)) (take-all n line h))
+    (λ h.
+    let count = length-take n line in
+    too-long (take n line) (omega arith) ∙ sym (too-long line (omega arith)))
