@@ -43,7 +43,7 @@ use Rattle.chart.specs.Soundness.{soundChart}
 use Rattle.chart.proofs.SoundCharts.{sound-chart-facts}
 use Rattle.lines.specs.Lines.{answerToLines}
 use Rattle.printing.proofs.Putting.{puts-front}
-use Rattle.replies.specs.Texts.{refusalText, bytesText, stateText}
+use Rattle.replies.specs.Texts.{refusalText, answerText, bytesText, stateText}
 use Rattle.replies.proofs.Lengths.{Short, ShortFormed, ShortBuilding, ShortAnswer, ShortReading, ShortLines, ShortWords, ShortState}
 use Rattle.replies.proofs.Lengths.{refusal-length, formed-length, building-length, answer-length, reading-length, lines-length}
 use Rattle.replies.proofs.Lengths.{bytes-length, state-length, fault-length}
@@ -165,14 +165,17 @@ show-length c t =
 
 -- ---- replies and answers
 
+call-room : (chart : Chart) (call : Call) → length (answerText (answerTo chart call)) < answerMost
+call-room chart call = omega (arith, answer-length (answerTo chart call) (answer-short chart call))
+
 reply-room : (chart : Chart) → IsTyped chart → (asked : Command) → length (replyTo chart asked) < answerMost
 unfolding replyTo
 reply-room chart t (command.word kind a b c) = omega (arith, formed-length (wordAlone kind a b c) (formed-short kind a b c))
 reply-room chart t (command.build kind words) = omega (arith, building-length (building kind words) (building-short kind words))
-reply-room chart t (command.post kind a b c) = omega (arith, answer-length (answerTo chart (machine.post kind a b c)) (answer-short chart (machine.post kind a b c)))
-reply-room chart t (command.reanalyse kind a b c) = omega (arith, answer-length (answerTo chart (machine.reanalysis kind a b c)) (answer-short chart (machine.reanalysis kind a b c)))
-reply-room chart t command.correct = omega (arith, answer-length (answerTo chart machine.correction) (answer-short chart machine.correction))
-reply-room chart t command.renew = omega (arith, answer-length (answerTo chart machine.renewal) (answer-short chart machine.renewal))
+reply-room chart t (command.post kind a b c) = call-room chart (machine.post kind a b c)
+reply-room chart t (command.reanalyse kind a b c) = call-room chart (machine.reanalysis kind a b c)
+reply-room chart t command.correct = call-room chart machine.correction
+reply-room chart t command.renew = call-room chart machine.renewal
 reply-room chart t command.lines = omega (arith, lines-length (answerToLines chart) (lines-short chart))
 reply-room chart t command.write = write-length chart
 reply-room chart t (command.read bytes) = omega (arith, reading-length (reading bytes) (reading-short bytes))

@@ -30,6 +30,14 @@ unfolding withBytes
 reads-joined s [] y = refl
 reads-joined s (b ∷ x) y = reads-joined (withByte s b) x y
 
+-- the first bytes, and n more
+more-bytes : (s : Begun) (bytes : List ℕ) (at n next : ℕ) → next ≡ at + n
+    → withBytes s (take next bytes) ≡ withBytes (withBytes s (take at bytes)) (take n (drop at bytes))
+more-bytes s bytes at n next e =
+    ap (λ (m : ℕ). withBytes s (take m bytes)) e
+    ∙ ap (withBytes s) (take-add at n bytes)
+    ∙ reads-joined s (take at bytes) (take n (drop at bytes))
+
 -- ---- up to a line feed
 
 module _ (x : ℕ) (xs : List ℕ) where
@@ -95,14 +103,12 @@ turn s bytes at end next h found behind =
     by-order end (length bytes)
     (λ none.
     let test = le-ltb end (length bytes) none in
-    let e : next ≡ at + k = (rw test at behind) ∙ place in
-    rw (test, size) (ap (λ (n : ℕ). withBytes s (take n bytes)) e ∙ ap (withBytes s) (take-add at k bytes) ∙ reads-joined s (take at bytes) (take k xs) ∙ before-feed before xs))
+    let behind = rw test at behind in
+    rw (test, size) (more-bytes s bytes at k next (omega arith) ∙ before-feed before xs))
     (λ some.
     let test = lt-ltb end (length bytes) some in
     let behind = rw test at behind in
-    let e : next ≡ at + suc k = omega arith in
-    rw (test, size) (ap (λ (n : ℕ). withBytes s (take n bytes)) e ∙ ap (withBytes s) (take-add at (suc k) bytes) ∙ reads-joined s (take at bytes) (take (suc k) xs)
-    ∙ feed-ends before xs (omega (arith, length-drop at bytes))))
+    rw (test, size) (more-bytes s bytes at (suc k) next (omega arith) ∙ feed-ends before xs (omega (arith, length-drop at bytes))))
 
 -- ---- what is held of the line
 

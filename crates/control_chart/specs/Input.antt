@@ -45,7 +45,7 @@ pub record Holds (s : Begun) (p : Pending) (buffer : List ℕ) : Type 0 where
   pub count : p .len ≡ min (length (s .line)) (length buffer)
   pub bytes : take (p .len) buffer ≡ take (length buffer) (s .line)
 
--- whatever has begun, in a buffer that has room to tell a line that is too long: what is held of it before is held, after, of what
--- `change` makes of it
+-- p holds s before, so q holds what `change` makes of s after, whatever s is. The buffer has room for the longest line, a carriage return,
+-- and one byte by which a longer line is known
 abbrev pub Follows : (Begun → Begun) → Pending → List ℕ → Pending → List ℕ → Type 0
 Follows change p before q after = (s : Begun) → lineMost + 2 ≤ length before → Holds s p before → Holds (change s) q after

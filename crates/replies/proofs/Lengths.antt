@@ -34,9 +34,12 @@ use Rattle.replies.specs.Texts.{readingText, chartLineText, linesText, b
 abbrev pub Short : ℕ → Type 0
 Short n = n < 10 ^ 5
 
+digits : (n : ℕ) → Short n → length (decimal n) ≤ 5
+digits n h = decimal-length 5 n h (omega arith)
+
 pub refusal-length : (n : ℕ) → Short n → length (refusalText n) ≤ 13
 unfolding refusalText
-refusal-length n h = rw length-append (omega (arith, decimal-length 5 n h (omega arith)))
+refusal-length n h = rw length-append (omega (arith, digits n h))
 
 word-length : (w : ℤ) → Short (natAbs w) → length (wordText w) ≤ 11
 unfolding wordText
@@ -45,7 +48,7 @@ word-length w h = rw length-append (omega (arith, signed-length 5 w h (omega ari
 rounds-length : (rounds removed : ℕ) → Short rounds → Short removed → length (roundsText rounds removed) ≤ 26
 unfolding roundsText
 rounds-length rounds removed h k =
-    rw (length-append, length-append, length-append) (omega (arith, decimal-length 5 rounds h (omega arith), decimal-length 5 removed k (omega arith)))
+    rw (length-append, length-append, length-append) (omega (arith, digits rounds h, digits removed k))
 
 outcome-length : (passed : Bool) → length (outcomeText passed) ≡ 7
 outcome-length true = refl
@@ -78,7 +81,7 @@ ShortAnswer (refused n) = Short n
 
 pub answer-length : (a : Answer) → ShortAnswer a → length (answerText a) ≤ 40
 answer-length (judged w v) h =
-    rw (length-append, length-append) (omega (arith, word-length w (h .0), decimal-length 5 v (h .1) (omega arith)))
+    rw (length-append, length-append) (omega (arith, word-length w (h .0), digits v (h .1)))
 answer-length (reanalysed w passed) h = rw length-append (omega (arith, word-length w h, outcome-length passed))
 answer-length corrected h = lit≤ tt
 answer-length (renewed rounds removed) h = rw length-append (omega (arith, rounds-length rounds removed (h .0) (h .1)))
@@ -122,16 +125,17 @@ lines-length (lines.refused n) h = omega (arith, refusal-length n h)
 pub bytes-length : (bytes : List ℕ) → Short (length bytes) → length (bytesText bytes) ≤ 12 + 2 * length bytes
 unfolding bytesText
 bytes-length bytes h =
-    rw (length-append, length-append, length-append) (omega (arith, decimal-length 5 (length bytes) h (omega arith), hex-length bytes))
+    rw (length-append, length-append, length-append) (omega (arith, digits (length bytes) h, hex-length bytes))
 
 -- words of at most five digits
 abbrev pub ShortWords : List ℤ → Type 0
 ShortWords ws = (i : ℕ) → i < length ws → Short (natAbs (getD ws i (pos 0)))
 
-list-length : (name : List ℕ) (ws : List ℤ) → Short (length ws) → ShortWords ws → length (listText name ws) ≤ length name + 5 + 7 * length ws
+list-length : (name : List ℕ) (ws : List ℤ) → Short (length ws) → ShortWords ws
+    → length (listText name ws) ≤ length name + 5 + 7 * length ws
 unfolding listText
 list-length name ws h k =
-    rw (length-append, length-append) (omega (arith, decimal-length 5 (length ws) h (omega arith), spaced-words-length ws k))
+    rw (length-append, length-append) (omega (arith, digits (length ws) h, spaced-words-length ws k))
 
 -- the numbers of a state
 pub record ShortState (s : State) : Type 0 where
@@ -149,9 +153,9 @@ state-length s h =
     rw (length-append, length-append, length-append, length-append, length-append, length-append, length-append)
     (omega (
       arith,
-      decimal-length 5 (s .kind) (h .kind) (omega arith),
-      decimal-length 5 (s .status) (h .status) (omega arith),
-      decimal-length 5 (s .openVerdict) (h .verdict) (omega arith),
+      digits (s .kind) (h .kind),
+      digits (s .status) (h .status),
+      digits (s .openVerdict) (h .verdict),
       list-length (ascii " base ") (s .base) (h .base-count) (h .base),
       list-length (ascii " series ") (s .series) (h .series-count) (h .series),
     ))

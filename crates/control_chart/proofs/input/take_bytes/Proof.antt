@@ -25,8 +25,8 @@ next-line : (c : tie.After-after-line-feed Inv-loop μ-loop) → let l = c .befo
 next-line c =
     let found = c .before .before .before .before .before .before in
     let l = found .before .before in
-    behind-feed (l .loop .at) (found .find .result) _ (c .after-line-feed .result) (omega (arith, found .find .ensures)) (omega (arith, found .find .ensures))
-    (omega arith) (c .after-line-feed .ensures)
+    behind-feed (l .loop .at) (found .find .result) _ (c .after-line-feed .result)
+    (omega (arith, found .find .ensures)) (omega (arith, found .find .ensures)) (omega arith) (c .after-line-feed .ensures)
 
 loop-holds : tie.Need-loop-holds Inv-loop μ-loop
 unfolding withBytes
@@ -65,7 +65,8 @@ loop-again c =
       next-line c .1,
       search needs,
       λ s room held.
-          rw (turn s bytes at (found .find .result) (c .after-line-feed .result) (inv .1) (found .find .ensures .0) (c .after-line-feed .ensures))
+          rw (turn s bytes at (found .find .result) (c .after-line-feed .result) (inv .1) (found .find .ensures .0)
+          (c .after-line-feed .ensures))
           (part .take-part .ensures .1 (withBytes s (take at bytes)) (omega (arith, inv .2)) (inv .3 s room held)),
     )
 

@@ -20,8 +20,10 @@ returns : tie.Need-returns
 returns c =
     let put = c .before .before .before in
     let start = put .before .before .before .before .before in
-    let goes-on : start .args .ends ≡ false = not-true (start .args .ends) (c .if1 .taken) in
-    (puts-within (start .pre) (put .put-text .ensures), λ s room held. rw goes-on (held-part s (start .args .pending) held (put .put-text .ensures)))
+    let goes-on : start .args .ends ≡ false = not-true (start .args .ends) (c .if1 .taken) in (
+      puts-within (start .pre) (put .put-text .ensures),
+      λ s room held. rw goes-on (held-part s (start .args .pending) held (put .put-text .ensures)),
+    )
 
 slice-reshare-prefix-end-line : tie.Need-slice-reshare-prefix-end-line
 slice-reshare-prefix-end-line c =
@@ -43,8 +45,11 @@ returns-2 c =
     let put = tested .before .before .before in
     let start = put .before .before .before .before .before in
     let ended = c .end-line .ensures in
-    let ends : start .args .ends ≡ true = not-false (start .args .ends) (tested .if1 .left) in
-    (omega (arith, ended .1), λ s room held. rw ends (held-end s (start .args .pending) held (put .put-text .ensures) (c .end-line .result) room (ended .0) (ended .1)))
+    let ends : start .args .ends ≡ true = not-false (start .args .ends) (tested .if1 .left) in (
+      omega (arith, ended .1),
+      λ s room held.
+          rw ends (held-end s (start .args .pending) held (put .put-text .ensures) (c .end-line .result) room (ended .0) (ended .1)),
+    )
 
 pub take-part-spec : {M : Type 1} → statement M
 take-part-spec =
