@@ -1,13 +1,13 @@
 -- 4,096 bytes are room for every answer (`answer-room`), so a buffer of as many holds all of it (`in-full`). The numbers in an answer
 -- have at most five digits: words, counts and verdicts are small by the laws of the paper's definitions, and what `show` shows of a chart
 -- that is not sound is small by its type.
-use mathlib.Core.Path.{_≡_, refl}
+use mathlib.Core.Path.{_≡_, refl, sym, ap, _∙_}
 use mathlib.Core.Bool.{true}
 use mathlib.Core.List.{List, [], _∷_, _++_, map}
 use Prim.Native.Nat.{ℕ, zero, suc, _<_, _≤_}
 use native.Mathlib.Omega.{arith}
 use lib.Dec.{lit<}
-use lib.ListN.{length, take, length-take, length-append}
+use lib.ListN.{length, take, drop, length-take, length-append}
 use lib.Seq.{getD-take}
 use lib.IntN.{ℤ, pos, negsuc, natAbs}
 use mir.Syntax.{w16}
@@ -188,7 +188,11 @@ answer-room chart t (command.asked c) = rw length-append (omega (arith, reply-ro
 
 pub in-full : {before after : List ℕ} (chart : Chart) → IsTyped chart → (line : Line) (r : Answered)
     → Answers chart line before after r → Answers chart line before after r × AnswersInFull chart line before after r
-in-full chart t line r answers =
+in-full {before} chart t line r answers =
     let text = answerToLine chart line in
-    let short = answer-room chart t line in
-    (answers, λ room. puts-front text (omega arith) (answers .text))
+    let short = answer-room chart t line in (
+      answers,
+      λ room.
+          let front = puts-front text (omega arith) (answers .text) in
+          record { buffer = front .bytes ∙ ap (λ (n : ℕ). text ++ drop n before) (sym (front .place)); counted = front .place },
+    )

@@ -13,9 +13,10 @@ use Rattle.chart.specs.declared.BuildAnswer.the-variants as build
 use Rattle.store.specs.declared.ReadAnswer.{ReadAnswer}
 use Rattle.store.specs.declared.ReadAnswer.the-variants as read
 use Rattle.guide.specs.Word.{wordAlone}
+use Rattle.parsing.specs.Bytes.{PutInFront}
 use Rattle.parsing.specs.Fields.{fieldsOf}
 use Rattle.parsing.specs.Number.{FieldNumber, numberSays, kindOf, readingOf}
-use Rattle.printing.specs.Output.{Puts, Front}
+use Rattle.printing.specs.Output.{Puts}
 use Rattle.commands.specs.declared.Answered.{Answered}
 use Rattle.commands.specs.declared.numbers.NumberAt.{NumberAt}
 use Rattle.commands.specs.declared.numbers.Readings.{Readings}
@@ -31,7 +32,7 @@ pub record Answers (c : Chart) (line : Line) (before after : List ℕ) (r : Answ
 
 -- a buffer that has room for every answer holds all of it, and the bytes behind it are as they were
 abbrev pub AnswersInFull : Chart → Line → List ℕ → List ℕ → Answered → Type 0
-AnswersInFull c line before after r = answerMost ≤ length before → Front before (answerToLine c line) after (r .size)
+AnswersInFull c line before after r = answerMost ≤ length before → PutInFront (answerToLine c line) before after (r .size)
 
 -- the same as `Answers`, without the line feed
 pub record Replies (c : Chart) (line : Line) (before after : List ℕ) (r : Answered) : Type 0 where

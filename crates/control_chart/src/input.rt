@@ -18,11 +18,12 @@ ghost use lib.Dec.{ltb};
 ghost use Rattle.guide.specs.Choice.{choose};
 ghost use Rattle.io.specs.Counts.{Counts};
 ghost use Rattle.commands.specs.Command.{lineIn};
-ghost use Rattle.commands.specs.Reply.{chartAfterLine};
-ghost use Rattle.commands.specs.Answers.{Answers, AnswersInFull};
-ghost use Rattle.control_chart.specs.Input.{chartAfterEnded, withPart, withBytes, Follows};
+ghost use Rattle.parsing.specs.Bytes.{PutInFront};
+ghost use Rattle.commands.specs.Reply.{chartAfterLine, answerToLine, answerMost};
+ghost use Rattle.control_chart.specs.Input.{chartAfterEnded, withPart, withBytes, Follows, HasRoom, GivesAtEnd};
+ghost use Rattle.control_chart.specs.Input.{Came, IsRead, IsAtEnd};
 
-// Room for the longest line, a carriage return, and one byte by which a longer line is known.
+// `lineRoom` in `specs/Input`.
 pub const LINE_ROOM: usize = LINE_MOST + 2;
 
 // The chart, and how many bytes have come of a line that has not ended.
@@ -38,20 +39,24 @@ struct AfterRead {
 }
 
 // Nothing says that the input ends, so the reads are counted: 2^63 of them are more than any input needs.
-pub fn commands_from_input() {
+// Answers the chart at its end.
+pub fn commands_from_input() -> Chart
+    ensures { λ r. ⌜ IsAtEnd r ⌝ }
+{
     let mut line = [0u8; LINE_ROOM];
     let pending = Pending {
         chart: zero_chart(),
         len: 0,
     };
     let last = take_all(pending, &mut line);
-    end_input(last, &line);
+    end_input(last, &line)
 }
 
 // Reads to the end of the input.
 fn take_all(pending: Pending, line: &mut [u8]) -> Pending
-    requires { ⌜ pending .len ≤ length (now line) ⌝ }
+    requires { ⌜ HasRoom pending (now line) ⌝ }
     ensures { λ r. ⌜ r .len ≤ length (now (line .exit)) ⌝ }
+    ensures { λ r. ⌜ Came pending (now (line .entry)) r (now (line .exit)) ⌝ }
 {
     let mut kept = pending;
     let mut left: u64 = 9223372036854775808;
@@ -66,20 +71,24 @@ fn take_all(pending: Pending, line: &mut [u8]) -> Pending
     kept
 }
 
-// A last line that has no line feed.
-fn end_input(pending: Pending, line: &[u8])
-    requires { ⌜ pending .len ≤ length (now line) ⌝ }
+// A last line that has no line feed. Answers the chart after it.
+fn end_input(pending: Pending, line: &[u8]) -> Chart
+    requires { ⌜ HasRoom pending (now line) ⌝ }
+    ensures { λ r. ⌜ GivesAtEnd pending (now (line .entry)) r ⌝ }
 {
     let n = pending.len;
-    if 0 < n {
-        answered(pending.chart, &line[..n]);
+    if n == 0 {
+        return pending.chart;
     }
+    let last = answered(pending.chart, &line[..n]);
+    last.chart
 }
 
 // One read. Where it fails, a line that had begun is left out: its end is not known.
 fn read_some(pending: Pending, line: &mut [u8]) -> AfterRead
-    requires { ⌜ pending .len ≤ length (now line) ⌝ }
+    requires { ⌜ HasRoom pending (now line) ⌝ }
     ensures { λ r. ⌜ r .pending .len ≤ length (now (line .exit)) ⌝ }
+    ensures { λ r. ⌜ IsRead pending (now (line .entry)) r (now (line .exit)) ⌝ }
 {
     let mut bytes = io::buffer();
     let got = libc::read(STDIN_FILENO, &mut bytes);
@@ -105,7 +114,7 @@ fn read_some(pending: Pending, line: &mut [u8]) -> AfterRead
 
 // Bytes that came: each line that ends among them is answered, and the rest is kept.
 fn take_bytes(pending: Pending, bytes: &[u8], line: &mut [u8]) -> Pending
-    requires { ⌜ pending .len ≤ length (now line) ⌝ }
+    requires { ⌜ HasRoom pending (now line) ⌝ }
     ensures { λ r. ⌜ r .len ≤ length (now (line .exit)) ⌝ }
     ensures { λ r. ⌜ Follows (λ s. withBytes s (now (bytes .entry))) pending (now (line .entry)) r (now (line .exit)) ⌝ }
 {
@@ -126,9 +135,9 @@ fn after_line_feed(bytes: &[u8], end: usize) -> usize
     if end < bytes.len() { end + 1 } else { end }
 }
 
-// A part of a line, and whether a line feed follows it. A carriage return before the line feed is passed over.
+// A part of a line, and whether a line feed follows it.
 fn take_part(pending: Pending, part: &[u8], ends: bool, line: &mut [u8]) -> Pending
-    requires { ⌜ pending .len ≤ length (now line) ⌝ }
+    requires { ⌜ HasRoom pending (now line) ⌝ }
     ensures { λ r. ⌜ r .len ≤ length (now (line .exit)) ⌝ }
     ensures { λ r. ⌜ Follows (λ s. withPart s (now (part .entry)) ends) pending (now (line .entry)) r (now (line .exit)) ⌝ }
 {
@@ -140,6 +149,7 @@ fn take_part(pending: Pending, part: &[u8], ends: bool, line: &mut [u8]) -> Pend
     end_line(chart, &line[..len])
 }
 
+// A line that has ended. A carriage return before its line feed is passed over.
 fn end_line(chart: Chart, line: &[u8]) -> Pending
     ensures { λ r. ⌜ (r .chart ≡ chartAfterEnded chart (now (line .entry))) × (r .len ≡ 0) ⌝ }
 {
@@ -162,10 +172,11 @@ fn answered(chart: Chart, line: &[u8]) -> Pending
     }
 }
 
-// Answers a line; the answer lies within the buffer, and one of ANSWER_MOST bytes holds all of it.
+// Answers a line. The buffer holds all of the answer.
 pub fn answer(chart: Chart, line: &[u8], out: &mut [u8]) -> Answered
-    ensures { λ r. ⌜ Answers chart (lineIn (now (line .entry))) (now (out .entry)) (now (out .exit)) r ⌝ }
-    ensures { λ r. ⌜ AnswersInFull chart (lineIn (now (line .entry))) (now (out .entry)) (now (out .exit)) r ⌝ }
+    requires { ⌜ answerMost ≤ length (now out) ⌝ }
+    ensures { λ r. ⌜ r .chart ≡ chartAfterLine chart (lineIn (now (line .entry))) ⌝ }
+    ensures { λ r. ⌜ PutInFront (answerToLine chart (lineIn (now (line .entry)))) (now (out .entry)) (now (out .exit)) (r .size) ⌝ }
     ensures { λ r. ⌜ Counts (r .size) (now (out .exit)) ⌝ }
 {
     answer_line(chart, line, out)

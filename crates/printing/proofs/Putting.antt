@@ -13,7 +13,7 @@ use lib.ListN.{length, take, drop, set, getD, length-set, length-take}
 use lib.Seq.{sets, sets-eq, take-suc, take-suc-set, take-all, take-at}
 use Rattle.guide.proofs.Choice.{choose-ind}
 use Rattle.guide.proofs.Integers.{by-order}
-use Rattle.printing.specs.Output.{Output, output, putByte, putAll, Puts, Front}
+use Rattle.printing.specs.Output.{Output, output, putByte, putAll, Puts}
 
 -- ---- none, and a byte
 
@@ -124,6 +124,10 @@ puts-room {before} {after} {at} {next} x room puts =
     }
 
 -- at the front of the buffer
+pub record Front (before x after : List ℕ) (next : ℕ) : Type 0 where
+  pub bytes : after ≡ x ++ drop (length x) before
+  pub place : next ≡ length x
+
 pub puts-front : {before after : List ℕ} {next : ℕ} (x : List ℕ) → length x ≤ length before
     → Puts before 0 x after next → Front before x after next
 puts-front {before} x room puts =

@@ -1,8 +1,8 @@
 -- Bytes put into a lent buffer, one behind the other.
 use mathlib.Core.Path.{_≡_}
-use mathlib.Core.List.{List, [], _∷_, _++_}
+use mathlib.Core.List.{List, [], _∷_}
 use Prim.Native.Nat.{ℕ, _+_}
-use lib.ListN.{length, drop, set}
+use lib.ListN.{length, set}
 use lib.Dec.{ltb}
 use Rattle.guide.specs.Choice.{choose}
 
@@ -26,9 +26,3 @@ putAll o (b ∷ bytes) = putAll (putByte o b) bytes
 -- as much of x as there is room for is put from `at` on, `next` is the place after that, and all other bytes are as they were
 pub record Puts (before : List ℕ) (at : ℕ) (x after : List ℕ) (next : ℕ) : Type 0 where
   pub same : output after next ≡ putAll (output before at) x
-
--- all of x is at the front of the buffer, `next` is the place after it, and all other bytes are as they were. So it is where there is room
--- for x (`puts-front` in `proofs/Putting`)
-pub record Front (before x after : List ℕ) (next : ℕ) : Type 0 where
-  pub bytes : after ≡ x ++ drop (length x) before
-  pub place : next ≡ length x

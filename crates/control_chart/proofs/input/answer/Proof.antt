@@ -12,7 +12,8 @@ same-length : tie.Need-same-length
 same-length c = search needs
 
 returns : tie.Need-returns
-returns c = let call = c .before .before .answer-line .ensures in (call .0, (call .1, text-counts (omega arith) (call .0 .text)))
+returns c = let call = c .before .before .answer-line .ensures in
+    (call .0 .chart, (call .1 (c .before .before .before .before .before .before .pre), text-counts (omega arith) (call .0 .text)))
 
 pub answer-spec : {M : Type 1} → statement M
 answer-spec = tie.close (tie.spec answer-line-requires same-length returns)

@@ -3,27 +3,34 @@ use mathlib.Core.Path.{_≡_, refl}
 use Prim.Native.Nat.{_≤_}
 use native.Mathlib.Omega.{arith}
 use borrow.Author.Needs.{needs}
+use borrow.Author.Tests.{not-false}
 use lib.ListN.{length}
+use Rattle.control_chart.proofs.Taking.{AllCame, none-came, so-came, last-came, more-came}
 use Rattle.control_chart.proofs.input.take_all.Statement.{statement}
 use Rattle.control_chart.proofs.input.take_all.Tie as tie
 
 abbrev Inv-loop : tie.InvT-loop
-Inv-loop line₀ kept₀ left₀ line kept left = (kept .len ≤ length line) × (length line ≡ length line₀)
+Inv-loop line₀ kept₀ left₀ line kept left = (kept .len ≤ length line) × (length line ≡ length line₀) × AllCame kept₀ line₀ kept line
 
 abbrev μ-loop : tie.MeasureT-loop
 μ-loop line₀ kept₀ left₀ line kept left = left
 
 loop-holds : tie.Need-loop-holds Inv-loop μ-loop
-loop-holds c = (search needs, refl)
+loop-holds c = (c .before .pre .within, refl, none-came _ _)
 
 read-some-requires : tie.Need-read-some-requires Inv-loop μ-loop
-read-some-requires c κs = search needs
+read-some-requires c κs =
+    let l = c .before .before in
+    record { within = l .loop .inv .0; enough = omega (arith, l .loop .inv .1, l .before .before .pre .enough) }
 
 same-length : tie.Need-same-length Inv-loop μ-loop
 same-length c = search needs
 
 returns : tie.Need-returns Inv-loop μ-loop
-returns c = search needs
+returns c =
+    let read = c .before .before .before .before .before in
+    let l = read .before .before .before in
+    (read .read-some .ensures .0, last-came (l .loop .inv .2) (read .read-some .ensures .1 .came))
 
 sub-left : tie.Need-sub-left Inv-loop μ-loop
 sub-left c = omega arith
@@ -32,13 +39,17 @@ loop-less : tie.Need-loop-less Inv-loop μ-loop
 loop-less c = omega arith
 
 loop-again : tie.Need-loop-again Inv-loop μ-loop
-loop-again c = (search needs, search needs)
+loop-again c =
+    let read = c .before .before .before .before .before in
+    let l = read .before .before .before in
+    let some = read .read-some .ensures .1 in
+    (read .read-some .ensures .0, search needs, more-came (l .loop .inv .2) (some .came) (some .goes-on (not-false _ (c .if1 .left))))
 
 same-length-2 : tie.Need-same-length-2 Inv-loop μ-loop
 same-length-2 c = search needs
 
 returns-2 : tie.Need-returns-2 Inv-loop μ-loop
-returns-2 c = search needs
+returns-2 c = let inv = c .before .loop .inv in (inv .0, so-came (inv .2))
 
 pub take-all-spec : {M : Type 1} → statement M
 take-all-spec =

@@ -30,7 +30,7 @@ next-line c =
 
 loop-holds : tie.Need-loop-holds Inv-loop μ-loop
 unfolding withBytes
-loop-holds c = (c .before .before .pre, omega arith, refl, λ s room held. held)
+loop-holds c = (c .before .before .pre .within, omega arith, refl, λ s held. held)
 
 find-requires : tie.Need-find-requires Inv-loop μ-loop
 find-requires c κs = search needs
@@ -45,7 +45,9 @@ part-take-part-end : tie.Need-part-take-part-end Inv-loop μ-loop
 part-take-part-end c = omega arith
 
 take-part-requires : tie.Need-take-part-requires Inv-loop μ-loop
-take-part-requires c κs = c .before .before .before .before .loop .inv .0
+take-part-requires c κs =
+    let l = c .before .before .before .before in
+    record { within = l .loop .inv .0; enough = omega (arith, l .loop .inv .2, l .before .before .before .pre .enough) }
 
 after-line-feed-requires : tie.Need-after-line-feed-requires Inv-loop μ-loop
 after-line-feed-requires c κs = search needs
@@ -64,10 +66,10 @@ loop-again c =
       part .take-part .ensures .0,
       next-line c .1,
       search needs,
-      λ s room held.
+      λ s held.
           rw (turn s bytes at (found .find .result) (c .after-line-feed .result) (inv .1) (found .find .ensures .0)
           (c .after-line-feed .ensures))
-          (part .take-part .ensures .1 (withBytes s (take at bytes)) (omega (arith, inv .2)) (inv .3 s room held)),
+          (part .take-part .ensures .1 (withBytes s (take at bytes)) (inv .3 s held)),
     )
 
 same-length : tie.Need-same-length Inv-loop μ-loop
@@ -77,7 +79,7 @@ returns : tie.Need-returns Inv-loop μ-loop
 returns c =
     let l = c .before in
     let bytes = now (l .before .before .before .args .bytes) in
-    (l .loop .inv .0, λ s room held. rw (take-all (l .loop .at) bytes (c .loop-test .left)) at (l .loop .inv .3 s room held))
+    (l .loop .inv .0, λ s held. rw (take-all (l .loop .at) bytes (c .loop-test .left)) at (l .loop .inv .3 s held))
 
 pub take-bytes-spec : {M : Type 1} → statement M
 take-bytes-spec =

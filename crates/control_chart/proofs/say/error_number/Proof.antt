@@ -5,7 +5,6 @@ use native.Mathlib.Omega.{arith}
 use lib.IntN.{pos}
 use lib.Signed.{ltZ}
 use mir.Facts.{toZ-ofZ}
-use borrow.Author.Needs.{needs}
 use mir.Syntax.{w32}
 use Rattle.guide.proofs.Complement.{natural}
 use Rattle.control_chart.proofs.say.error_number.Statement.{statement}
