@@ -8,6 +8,7 @@ use native.Mathlib.Omega.{arith}
 use borrow.Author.Tests.{le-leb, lt-leb, ltb-true, ltb-false, eq-eqb, ne-eqb}
 use lib.Dec.{ltb}
 use lib.ListN.{length, length-append}
+use Rattle.guide.specs.Sizes.{baseMost, seriesMost}
 use Rattle.guide.specs.StoredForm.{storedForm}
 use Rattle.guide.proofs.Booleans.{by-test}
 use Rattle.guide.proofs.Soundness.{sound-facts}
@@ -15,7 +16,8 @@ use Rattle.guide.proofs.Reading.{length-form, read-stored}
 use Rattle.guide.proofs.StoredForm.{AllBelow, stored-bytes}
 use Rattle.chart.specs.declared.Chart.{Chart}
 use Rattle.chart.specs.Chart.{stateOf}
-use Rattle.chart.proofs.State.{Given, chart-of-state}
+use Rattle.chart.specs.Soundness.{soundChart}
+use Rattle.chart.proofs.State.{given, chart-of-state}
 use Rattle.parsing.specs.Bytes.{allBytes, sameBytes}
 use Rattle.parsing.specs.Fields.{isBlank, inFront, fieldsOf}
 use Rattle.parsing.specs.Number.{isDigit}
@@ -23,9 +25,10 @@ use Rattle.parsing.specs.Hex.{isLowerHex, isHex, areHex, hexValue, bytesOfHex}
 use Rattle.printing.specs.Hex.{hexDigit, hexOf}
 use Rattle.printing.proofs.HexDigits.{hex-length, hex-figure, hex-letter}
 use Rattle.replies.specs.Ascii.{ascii}
+use Rattle.replies.specs.Texts.{bytesText, readingText}
 use Rattle.commands.specs.Command.{lineMost, asked, readFault, hexFault, faultFor, commandFor, nameIn, namedLine, lineOf, lineIn}
 use Rattle.commands.specs.Command as command
-use Rattle.commands.specs.Reply.{chartRead, chartAfterCommand}
+use Rattle.commands.specs.Reply.{replyTo, chartRead, chartAfterCommand}
 
 -- ---- a hex digit that was printed is one, and stands for what it was printed for
 
@@ -118,7 +121,7 @@ module _ (b : ℕ) (bytes : List ℕ) (h : AllBelow 256 (b ∷ bytes)) where
   unfolding lineOf nameIn namedLine faultFor commandFor sameBytes
   fields-read = rw (no-fault, hex-back (b ∷ bytes) h)
 
--- bytes that fit in a line
+-- at most 4,000 bytes, which fit in a line
 read-line : (bytes : List ℕ) → AllBelow 256 bytes → 1 ≤ length bytes → length bytes ≤ 4000
     → lineIn (ascii "read " ++ hexOf bytes) ≡ asked (command.read bytes)
 unfolding lineIn
@@ -128,16 +131,27 @@ read-line (b ∷ bytes) h some few =
     let short : length line ≤ lineMost = rw length-append (omega (arith, hex-length (b ∷ bytes))) in
     rw (le-leb (length line) lineMost short) (ap lineOf (fields-are b bytes h) ∙ fields-read b bytes h)
 
-pub read-back : (chart c : Chart) → Given c → let form = storedForm (stateOf c) in
-    (lineIn (ascii "read " ++ hexOf form) ≡ asked (command.read form)) × (chartAfterCommand chart (command.read form) ≡ c)
-unfolding chartAfterCommand
-read-back chart c g =
+-- ---- a sound chart, its arrays as long as its type says: what `write` replies of it, and the line that reads this on any chart
+pub record ReadBack (chart c : Chart) : Type 0 where
+  pub written : replyTo c command.write ≡ bytesText (storedForm (stateOf c))
+  pub line : lineIn (ascii "read " ++ hexOf (storedForm (stateOf c))) ≡ asked (command.read (storedForm (stateOf c)))
+  pub reply : replyTo chart (command.read (storedForm (stateOf c))) ≡ ascii "read"
+  pub returned : chartAfterCommand chart (command.read (storedForm (stateOf c))) ≡ c
+
+pub read-back : (chart c : Chart) → length (c .base) ≡ baseMost → length (c .series) ≡ seriesMost → soundChart c ≡ true → ReadBack chart c
+unfolding replyTo chartAfterCommand
+read-back chart c base series t =
     let s = stateOf c in
+    let g = given c base series t in
     let sound = g .facts .state in
     let facts = sound-facts s sound in
     let base = facts .base-most in
     let series = facts .series-most in
-    let size = length-form s in (
-      read-line (storedForm s) (stored-bytes s sound) (omega arith) (omega arith),
-      ap (chartRead chart) (read-stored s sound) ∙ chart-of-state c g,
-    )
+    let size = length-form s in
+    let read = read-stored s sound in
+    record {
+      written = rw t;
+      line = read-line (storedForm s) (stored-bytes s sound) (omega arith) (omega arith);
+      reply = ap readingText read;
+      returned = ap (chartRead chart) read ∙ chart-of-state c g;
+    }

@@ -1,6 +1,6 @@
--- 4,096 bytes are room for every answer (`answer-room`), so a buffer of as many holds all of it (`in-full`). The numbers in an answer
--- have at most five digits: words, counts and verdicts are small by the laws of the paper's definitions, and what `show` shows of a chart
--- that is not sound is small by its type.
+-- 4,096 bytes are room for every answer (`answer-room`), so a buffer of as many holds all of it (`in-full`). But for those of `lines`, which
+-- are read off doubles, the numbers in an answer have at most five digits: words, counts and verdicts by the laws of the paper's
+-- definitions, and what `show` shows by the chart's type, whether it is sound or not.
 use mathlib.Core.Path.{_≡_, refl, sym, ap, _∙_}
 use mathlib.Core.Bool.{true}
 use mathlib.Core.List.{List, [], _∷_, _++_, map}
@@ -112,7 +112,7 @@ write-length c =
     (λ t. omega (arith, form-length c t, bytes-length form (omega (arith, form-length c t))))
     (λ _. omega (arith, refusal-length 14 (lit< tt)))
 
--- ---- a chart of the program's type: its numbers and words have sixteen bits, and it has so many places
+-- ---- a chart of the program's type: its numbers and words have sixteen bits, and it has 32 and 366 places for words
 
 fits-short : (w : ℤ) → SFits w16 w → Short (natAbs w)
 fits-short (pos n) h = omega (arith, h .sfits)

@@ -1,10 +1,9 @@
 -- What the functions of `commands` give.
 use mathlib.Core.Path.{_≡_}
 use mathlib.Core.Bool.{true, not}
-use mathlib.Core.List.{List, _++_}
+use mathlib.Core.List.{List}
 use Prim.Native.Nat.{ℕ, _≤_, _<_}
 use lib.ListN.{length, drop}
-use lib.IntN.{ℤ}
 use lib.Dec.{eqb}
 use Rattle.guide.specs.Choice.{require}
 use Rattle.chart.specs.declared.Chart.{Chart}

@@ -49,7 +49,7 @@ ghost use Rattle.commands.specs.Answers.{Answers, AnswersInFull, Replies
 // The most bytes of a line.
 pub const LINE_MOST: usize = 8191;
 
-// Room for any answer: a chart's words, each of at most six characters and a blank, take less than 3,000 bytes.
+// Room for any answer: `answerMost` in `specs/Reply`. A chart's words, each of at most six characters and a blank, take less than 3,000 bytes.
 pub const ANSWER_MOST: usize = 4096;
 
 // Room for any stored form, which has at most 814 bytes.
@@ -61,7 +61,7 @@ pub struct Answered {
     pub size: usize,
 }
 
-// Does the command of a line, and puts its answer at the front of a buffer. A buffer of 4,096 bytes has room for all of it.
+// Does the command of a line, and puts its answer at the front of a buffer. A buffer of 4,096 bytes or more has room for all of it.
 pub fn answer_line(chart: Chart, line: &[u8], out: &mut [u8]) -> Answered
     ensures { λ r. ⌜ Answers chart (lineIn (now (line .entry))) (now (out .entry)) (now (out .exit)) r ⌝ }
     ensures { λ r. ⌜ AnswersInFull chart (lineIn (now (line .entry))) (now (out .entry)) (now (out .exit)) r ⌝ }

@@ -4,7 +4,8 @@
 //     control_chart FILE COMMAND ..    one command on the chart that FILE holds
 //     control_chart help               what it takes and answers
 //
-// What a line means, and what it answers, is `commands::answer_line`'s; here bytes are moved. No contract can say what is read or written.
+// What a line means, and what it answers, is `commands::answer_line`'s, and what bytes of the input do to the chart is in `specs/Input`. Which
+// bytes are read, and that answers are written, no contract can say.
 mod file;
 mod help;
 mod input;

@@ -90,7 +90,7 @@ fn write_synced(fd: i32, bytes: &[u8]) -> i32 {
     0
 }
 
-// A failure that the system gave no number for is one of the disk.
+// A failure that the system gave no number for counts as one of the disk (EIO, 5).
 fn failure(error: i32) -> i32
     ensures { λ r. ⌜ r ≡ choose (eqb (natAbs error) 0) (pos 5) error ⌝ }
 {

@@ -1,8 +1,8 @@
--- A sound state's stored form is bytes (`stored-bytes`): every number in it is below 65536.
+-- A sound state's stored form is bytes (`stored-bytes`): each is below 256, since every number that is stored is below 65536.
 use mathlib.Core.Path.{_≡_}
 use mathlib.Core.Bool.{true}
 use mathlib.Core.List.{List, [], _∷_, _++_, map}
-use Prim.Native.Nat.{ℕ, _*_, _<_, _≤_}
+use Prim.Native.Nat.{ℕ, _<_}
 use native.Mathlib.Omega.{arith}
 use lib.ListN.{length, length-map}
 use lib.Dec.{leb}

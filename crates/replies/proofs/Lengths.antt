@@ -1,7 +1,8 @@
--- How long the texts can be, where the numbers in them have at most five digits: those of the paper's words, counts, verdicts and refusals.
+-- How long the texts can be, where the paper's words, counts, verdicts and refusals in them have at most five digits; a chart's lines, of any
+-- doubles; and bytes in hex digits.
 use mathlib.Core.Path.{_≡_, refl}
 use mathlib.Core.Bool.{Bool, true, false}
-use mathlib.Core.List.{List, _++_}
+use mathlib.Core.List.{List}
 use Prim.Native.Nat.{ℕ, _+_, _*_, _^_, _<_, _≤_}
 use native.Mathlib.Omega.{arith}
 use lib.Dec.{eqb, lit≤}
@@ -21,8 +22,7 @@ use Rattle.guide.specs.ChartLines as lines
 use Rattle.guide.proofs.Choice.{choose-ind}
 use Rattle.lines.specs.Lines.{partsHeld}
 use Rattle.lines.proofs.PartsHeld.{held-small}
-use Rattle.printing.specs.Decimal.{decimal, signedDecimal, spacedWords, partsDecimal}
-use Rattle.printing.specs.Hex.{hexOf}
+use Rattle.printing.specs.Decimal.{decimal}
 use Rattle.printing.proofs.Digits.{decimal-length, signed-length, spaced-words-length, parts-length}
 use Rattle.printing.proofs.HexDigits.{hex-length}
 use Rattle.replies.specs.Ascii.{ascii}
@@ -30,7 +30,7 @@ use Rattle.replies.specs.Faults.{faultText}
 use Rattle.replies.specs.Texts.{refusalText, wordText, roundsText, outcomeText, formedText, buildingText, answerText}
 use Rattle.replies.specs.Texts.{readingText, chartLineText, linesText, bytesText, listText, stateText}
 
--- a number that the paper writes in two bytes has at most five digits
+-- n has at most five digits, as every number that is stored in two bytes has
 abbrev pub Short : ℕ → Type 0
 Short n = n < 10 ^ 5
 
