@@ -13,9 +13,14 @@ use printing::put_byte;
 use printing::put_text;
 use store::ReadAnswer;
 use store::WriteAnswer;
+ghost use mathlib.Core.List.{[], _∷_};
 ghost use Prim.Native.Nat.{_≤_};
 ghost use lib.ListN.{length};
+ghost use lib.Dec.{eqb};
 ghost use Rattle.io.specs.Counts.{Counts};
+ghost use Rattle.guide.specs.Choice.{choose};
+ghost use Rattle.printing.specs.Output.{Puts};
+ghost use Rattle.printing.specs.Decimal.{spaceCode};
 
 // More than the longest stored form, which has 814 bytes.
 const FILE_ROOM: usize = 1024;
@@ -83,10 +88,9 @@ fn put_argument(i: usize, line: &mut [u8], at: usize) -> usize
     put_text(line, next, &argument[..n])
 }
 
-// A blank between two arguments.
+// A blank between two arguments; none in front of the first.
 fn put_blank(line: &mut [u8], at: usize) -> usize
-    requires { ⌜ at ≤ length (now line) ⌝ }
-    ensures { λ r. ⌜ r ≤ length (now (line .exit)) ⌝ }
+    ensures { λ r. ⌜ Puts (now (line .entry)) at (choose (eqb at 0) [] (spaceCode ∷ [])) (now (line .exit)) r ⌝ }
 {
     if at == 0 {
         return 0;

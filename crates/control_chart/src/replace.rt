@@ -8,6 +8,7 @@ ghost use lib.Dec.{eqb};
 ghost use lib.IntN.{pos, natAbs};
 ghost use Rattle.io.specs.Counts.{Counts};
 ghost use Rattle.guide.specs.Choice.{choose};
+ghost use Rattle.control_chart.specs.Folder.{IsFolder};
 
 // Whether it was done. If not, it is said why, and the file is as it was.
 pub fn replace_file(path: &[u8], form: &[u8]) -> bool {
@@ -118,6 +119,7 @@ fn sync_named(folder: &[u8]) {
 
 // The bytes up to the last '/', with it; 0 where there is none.
 fn folder_len(path: &[u8]) -> usize
+    ensures { λ r. ⌜ IsFolder (now (path .entry)) r ⌝ }
     ensures { λ r. ⌜ Counts r (now (path .entry)) ⌝ }
 {
     let mut n = path.len();

@@ -34,7 +34,9 @@ same-length c = search needs
 returns-2 : tie.Need-returns-2
 returns-2 c =
     let put = c .before .before in
-    puts-within (put .before .before .before .before .before .put-blank .ensures) (put .put-text .ensures)
+    let blank = put .before .before .before .before .before in
+    let start = blank .before .before .before .before .before .before .before .before in
+    puts-within (puts-within (start .pre) (blank .put-blank .ensures)) (put .put-text .ensures)
 
 pub put-argument-spec : {M : Type 1} → statement M
 put-argument-spec =

@@ -1,20 +1,23 @@
 -- `control_chart::replace::folder_len` meets its contract.
-use Prim.Native.Nat.{_≤_, zero-le}
+use mathlib.Core.Path.{_≡_}
+use Prim.Native.Nat.{ℕ, _-_, _≤_, _<_, zero-le}
 use native.Mathlib.Omega.{arith}
 use denote.Ref.{now}
-use lib.ListN.{length}
+use lib.ListN.{length, getD}
+use Rattle.guide.proofs.Integers.{by-order}
+use Rattle.control_chart.specs.Folder.{slashCode}
 use Rattle.control_chart.proofs.Places.{counts}
 use Rattle.control_chart.proofs.replace.folder_len.Statement.{statement}
 use Rattle.control_chart.proofs.replace.folder_len.Tie as tie
 
 abbrev Inv-loop : tie.InvT-loop
-Inv-loop path n₀ n = n ≤ length path
+Inv-loop path n₀ n = (n ≤ length path) × ((i : ℕ) → n ≤ i → i < length path → getD path i 0 ≡ slashCode → ⊥)
 
 abbrev μ-loop : tie.MeasureT-loop
 μ-loop path n₀ n = n
 
 loop-holds : tie.Need-loop-holds Inv-loop μ-loop
-loop-holds c = omega arith
+loop-holds c = (omega arith, λ i from less e. omega arith)
 
 sub-if1 : tie.Need-sub-if1 Inv-loop μ-loop
 sub-if1 c = omega arith
@@ -23,7 +26,9 @@ shared-slice-read-if1 : tie.Need-shared-slice-read-if1 Inv-loop μ-loop
 shared-slice-read-if1 c = omega arith
 
 returns : tie.Need-returns Inv-loop μ-loop
-returns c = counts _ _ (omega arith)
+returns c =
+    let l = c .before .before .before in
+    (record { within = l .loop .inv .0; slash = λ _. c .if1 .taken; last = l .loop .inv .1 }, counts _ _ (l .loop .inv .0))
 
 sub-n : tie.Need-sub-n Inv-loop μ-loop
 sub-n c = omega arith
@@ -32,10 +37,20 @@ loop-less : tie.Need-loop-less Inv-loop μ-loop
 loop-less c = omega arith
 
 loop-again : tie.Need-loop-again Inv-loop μ-loop
-loop-again c = omega arith
+loop-again c =
+    let l = c .before .before .before in
+    let n = l .loop .n in (
+      omega arith,
+      λ i from less e.
+          by-order i n (λ h. l .loop .inv .1 i h less e) (λ h. let same : n - 1 ≡ i = omega arith in c .if1 .left (rw same e)),
+    )
 
 returns-2 : tie.Need-returns-2 Inv-loop μ-loop
-returns-2 c = counts 0 (now (c .before .before .args .path)) zero-le
+returns-2 c =
+    let l = c .before in (
+      record { within = zero-le; slash = λ h. absurd (omega arith); last = λ i from. l .loop .inv .1 i (omega (arith, c .loop-test .left)) },
+      counts 0 (now (l .before .args .path)) zero-le,
+    )
 
 pub folder-len-spec : {M : Type 1} → statement M
 folder-len-spec =
