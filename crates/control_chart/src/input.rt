@@ -38,8 +38,7 @@ struct AfterRead {
     pending: Pending,
 }
 
-// Nothing says that the input ends, so the reads are counted: 2^63 of them are more than any input needs.
-// Answers the chart at its end.
+// Does the commands of standard input, from the chart of zeros. Answers the chart at its end.
 pub fn commands_from_input() -> Chart
     ensures { λ r. ⌜ IsAtEnd r ⌝ }
 {
@@ -52,7 +51,7 @@ pub fn commands_from_input() -> Chart
     end_input(last, &line)
 }
 
-// Reads to the end of the input.
+// Reads to the end of the input. Nothing says that it ends, so the reads are counted: 2^63 of them are more than any input needs.
 fn take_all(pending: Pending, line: &mut [u8]) -> Pending
     requires { ⌜ HasRoom pending (now line) ⌝ }
     ensures { λ r. ⌜ r .len ≤ length (now (line .exit)) ⌝ }
