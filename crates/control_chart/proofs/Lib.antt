@@ -1,4 +1,5 @@
--- Laws of places within buffers, of a line that is cut, and of the input as it is taken.
+-- Laws of places within buffers, of a line that is cut, of the input as it is taken, and of what is kept in a file.
 mod Places
 mod Cutting
 mod Taking
+mod Keeping

@@ -21,6 +21,7 @@ ghost use Rattle.io.specs.Counts.{Counts};
 ghost use Rattle.guide.specs.Choice.{choose};
 ghost use Rattle.printing.specs.Output.{Puts};
 ghost use Rattle.printing.specs.Decimal.{spaceCode};
+ghost use Rattle.control_chart.specs.Kept.{formMost, IsKept};
 
 // More than the longest stored form, which has 814 bytes.
 const FILE_ROOM: usize = 1024;
@@ -166,10 +167,23 @@ fn command_on(chart: Chart, bytes: &[u8], path: &[u8], line: &[u8]) {
 // Puts the chart into the file if it is not there already. The chart of zeros, which a refused build leaves, is put nowhere.
 fn keep(chart: Chart, bytes: &[u8], path: &[u8]) -> bool {
     let mut form = [0u8; FILE_ROOM];
-    let written = store::write(chart, &mut form);
+    let n = form_of(chart, &mut form);
+    if n == 0 {
+        return true;
+    }
+    keep_form(path, bytes, &form[..n])
+}
+
+// The stored form of a chart, at the front of the buffer, and its size; 0 of a chart that is not sound.
+fn form_of(chart: Chart, form: &mut [u8]) -> usize
+    requires { ⌜ formMost ≤ length (now form) ⌝ }
+    ensures { λ r. ⌜ IsKept chart (now (form .exit)) r ⌝ }
+    ensures { λ r. ⌜ Counts r (now (form .exit)) ⌝ }
+{
+    let written = store::write(chart, form);
     match written {
-        WriteAnswer::Done(n) => keep_form(path, bytes, &form[..n]),
-        WriteAnswer::Refused(_) => true,
+        WriteAnswer::Done(n) => n,
+        WriteAnswer::Refused(_) => 0,
     }
 }
 

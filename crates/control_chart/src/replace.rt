@@ -4,6 +4,7 @@ use crate::say::say_failure;
 use printing::numbers::put_decimal;
 use printing::put_text;
 ghost use mathlib.Core.Path.{_≡_};
+ghost use mathlib.Core.Bool.{false};
 ghost use lib.Dec.{eqb};
 ghost use lib.IntN.{pos, natAbs};
 ghost use Rattle.io.specs.Counts.{Counts};
@@ -32,7 +33,10 @@ pub fn replace_file(path: &[u8], form: &[u8]) -> bool {
     true
 }
 
-fn not_replaced(error: i32) -> bool {
+// It is said why, and the answer is no.
+fn not_replaced(error: i32) -> bool
+    ensures { λ r. ⌜ r ≡ false ⌝ }
+{
     say_failure(
         b"the file cannot be written",
         error,
