@@ -83,6 +83,12 @@ module _ (c : Chart) (call : Call) (next : Next) (t : soundChart c ≡ true) (e 
   unfolding nextChart answerTo
   gives d a p q = record { chart = rw (t, e) p; says = rw (t, e) q }
 
+-- ---- a chart that is not sound: 14, and the same chart comes back
+
+pub not-sound : (c : Chart) (call : Call) → soundChart c ≡ false → Gives c call c (refused 14)
+unfolding nextChart answerTo
+not-sound c call t = record { chart = rw t; says = rw t }
+
 -- ---- a call that is declined before what it brings is looked at: n is the number, and the same chart comes back
 
 module _ (c : Chart) (call : Call) (n : ℕ) (base : length (c .base) ≡ baseMost) (series : length (c .series) ≡ seriesMost)
@@ -95,10 +101,10 @@ module _ (c : Chart) (call : Call) (n : ℕ) (base : length (c .base) ≡ baseMo
       gives c call (declined (stateOf c) n) t step-is c (refused n) (sym (chart-of-state c (given c base series t))) refl
 
   unsound : soundChart c ≡ false → Gives c call c (refused n)
-  unfolding nextChart answerTo refusalOn
+  unfolding refusalOn
   unsound t =
       let number : n ≡ 14 = rw t at e in
-      record { chart = rw t; says = rw t (ap refused number) }
+      rw number (not-sound c call t)
 
   pub call-declined : (n ≡ 0 → ⊥) → Gives c call c (refused n)
   call-declined ne = by-test (soundChart c) (λ t. by-machine t ne) unsound

@@ -35,11 +35,11 @@ sound-chart-of s h =
 -- ---- one call on it
 
 module _ (s : State) (call : Call) (h : sound s ≡ true) where
-  next-is : nextChart (chartOf s) call ≡ chartOf (step s call .state)
+  pub next-is : nextChart (chartOf s) call ≡ chartOf (step s call .state)
   unfolding nextChart
   next-is = rw (sound-chart-of s h, state-of-chart s)
 
-  answer-is : answerTo (chartOf s) call ≡ step s call .answer
+  pub answer-is : answerTo (chartOf s) call ≡ step s call .answer
   unfolding answerTo
   answer-is = rw (sound-chart-of s h, state-of-chart s)
 

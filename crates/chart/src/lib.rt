@@ -145,8 +145,59 @@ impl Chart {
         }
     }
 
-    // The word is judged, added to the series, and answered with its verdict.
     pub fn post(mut self, kind: u16, a: i64, b: i64, c: i64) -> Posted
+        ensures { λ r. ⌜ Gives self (machine.post kind a b c) (r .chart) (postSays (r .answer)) ⌝ }
+    {
+        if !self.sound() {
+            return Posted {
+                chart: self,
+                answer: PostAnswer::Refused(14),
+            };
+        }
+        self.post_sound(kind, a, b, c)
+    }
+
+    pub fn reanalyse(mut self, kind: u16, a: i64, b: i64, c: i64) -> Reanalysed
+        ensures { λ r. ⌜ Gives self (machine.reanalysis kind a b c) (r .chart) (reanalysisSays (r .answer)) ⌝ }
+    {
+        if !self.sound() {
+            return Reanalysed {
+                chart: self,
+                answer: ReanalysisAnswer::Refused(14),
+            };
+        }
+        self.reanalyse_sound(kind, a, b, c)
+    }
+
+    pub fn correct(mut self) -> Corrected
+        ensures { λ r. ⌜ Gives self machine.correction (r .chart) (correctionSays (r .answer)) ⌝ }
+    {
+        if !self.sound() {
+            return Corrected {
+                chart: self,
+                answer: CorrectionAnswer::Refused(14),
+            };
+        }
+        self.correct_sound()
+    }
+
+    pub fn renew(mut self) -> Renewed
+        ensures { λ r. ⌜ Gives self machine.renewal (r .chart) (renewalSays (r .answer)) ⌝ }
+    {
+        if !self.sound() {
+            return Renewed {
+                chart: self,
+                answer: RenewalAnswer::Refused(14),
+            };
+        }
+        self.renew_sound()
+    }
+
+    // ---- the calls on a chart that is known to be sound, as one that was just read is
+
+    // The word is judged, added to the series, and answered with its verdict.
+    pub fn post_sound(mut self, kind: u16, a: i64, b: i64, c: i64) -> Posted
+        requires { ⌜ soundChart self ≡ true ⌝ }
         ensures { λ r. ⌜ Gives self (machine.post kind a b c) (r .chart) (postSays (r .answer)) ⌝ }
     {
         let formed = word_unless(self.post_refusal(), self.kind, kind, a, b, c);
@@ -172,7 +223,8 @@ impl Chart {
 
     // A word that passes replaces the last of the series, and the chart is free again; one that fails leaves the series, and a correction
     // is due.
-    pub fn reanalyse(mut self, kind: u16, a: i64, b: i64, c: i64) -> Reanalysed
+    pub fn reanalyse_sound(mut self, kind: u16, a: i64, b: i64, c: i64) -> Reanalysed
+        requires { ⌜ soundChart self ≡ true ⌝ }
         ensures { λ r. ⌜ Gives self (machine.reanalysis kind a b c) (r .chart) (reanalysisSays (r .answer)) ⌝ }
     {
         let formed = word_unless(self.status_refusal(1, 10), self.kind, kind, a, b, c);
@@ -200,7 +252,8 @@ impl Chart {
     }
 
     // After a correction a reanalysis is due again.
-    pub fn correct(mut self) -> Corrected
+    pub fn correct_sound(mut self) -> Corrected
+        requires { ⌜ soundChart self ≡ true ⌝ }
         ensures { λ r. ⌜ Gives self machine.correction (r .chart) (correctionSays (r .answer)) ⌝ }
     {
         let number = self.status_refusal(2, 11);
@@ -218,7 +271,8 @@ impl Chart {
     }
 
     // The last 15 words of base and series make the new base, as in building.
-    pub fn renew(mut self) -> Renewed
+    pub fn renew_sound(mut self) -> Renewed
+        requires { ⌜ soundChart self ≡ true ⌝ }
         ensures { λ r. ⌜ Gives self machine.renewal (r .chart) (renewalSays (r .answer)) ⌝ }
     {
         let number = self.renewal_refusal();
@@ -239,15 +293,13 @@ impl Chart {
         }
     }
 
-    // ---- what a call is declined for before what it brings is looked at: the number, or 0
+    // ---- what a call on a sound chart is declined for before what it brings is looked at: the number, or 0
 
-    // 14 for a chart that is not sound, then the number given for a status that is not the one wanted.
+    // The number given, for a status that is not the one wanted.
     fn status_refusal(self, wanted: u16, number: u16) -> u16
+        requires { ⌜ soundChart self ≡ true ⌝ }
         ensures { λ r. ⌜ r ≡ refusalOn self (require (eqb (self .status) wanted) number 0) ⌝ }
     {
-        if !self.sound() {
-            return 14;
-        }
         if self.status != wanted {
             return number;
         }
@@ -255,6 +307,7 @@ impl Chart {
     }
 
     fn post_refusal(self) -> u16
+        requires { ⌜ soundChart self ≡ true ⌝ }
         ensures { λ r. ⌜ r ≡ refusalOn self (machine.postRefusal (stateOf self)) ⌝ }
     {
         let number = self.status_refusal(0, 8);
@@ -268,6 +321,7 @@ impl Chart {
     }
 
     fn renewal_refusal(self) -> u16
+        requires { ⌜ soundChart self ≡ true ⌝ }
         ensures { λ r. ⌜ r ≡ refusalOn self (machine.renewalRefusal (stateOf self)) ⌝ }
     {
         let number = self.status_refusal(0, 8);

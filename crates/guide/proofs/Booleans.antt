@@ -17,6 +17,12 @@ pub by-test {ℓ} : {P : Type ℓ} (t : Bool) → (t ≡ true → P) → (t ≡ 
 by-test true f g = f refl
 by-test false f g = g refl
 
+-- two tests that hold together
+pub same-outcome : (a b : Bool) → (a ≡ true → b ≡ true) → (b ≡ true → a ≡ true) → a ≡ b
+same-outcome true b f g = sym (f refl)
+same-outcome false true f g = g refl
+same-outcome false false f g = refl
+
 -- a call's answer r to the test x, as an `if !r` found it
 pub answered-no : {r x : Bool} → r ≡ x → not r ≡ true → x ≡ false
 answered-no {r} e t = sym e ∙ not-true r t

@@ -1,14 +1,14 @@
 -- Laws of ℤ that stand for a ring tactic: an integer is written as a difference of two naturals (`Diff`), sums, products and squares
 -- of such differences are differences again, and what is left is a statement of ℕ, which `omega` proves.
 use mathlib.Core.Path.{_≡_, refl, sym, ap, _∙_}
-use mathlib.Core.Bool.{Bool, true, false, cond}
+use mathlib.Core.Bool.{Bool, true, false, cond, false≢true}
 use Prim.Native.Nat.{ℕ, zero, suc, _+_, _*_, _-_, _<_, _≤_}
 use native.Mathlib.Omega.{arith}
 use lib.Dec.{ltb}
-use lib.Signed.{ltZ}
+use lib.Signed.{ltZ, leZ}
 use lib.IntN.{ℤ, pos, negsuc, natAbs, subℕ, negℤ, _+ℤ_, _-ℤ_, _*ℤ_}
 use Rattle.guide.proofs.Booleans.{by-test}
-use borrow.Author.Tests.{ltb-true, ltb-false, lt-ltb, le-ltb}
+use borrow.Author.Tests.{ltb-true, ltb-false, leb-true, leb-false, lt-ltb, le-ltb, le-leb}
 
 -- how far apart two naturals are
 abbrev pub distance : ℕ → ℕ → ℕ
@@ -187,11 +187,42 @@ less-yes p q h = is-less p q 0 1 (λ _. omega arith) (λ k. absurd (omega arith)
 pub less-no : {z y : ℤ} {a b c d : ℕ} → Diff z a b → Diff y c d → c + b ≤ a + d → ltZ z y ≡ false
 less-no p q h = is-less p q 0 0 (λ k. absurd (omega arith)) (λ _. omega arith)
 
+-- .. and what it says of the parts
+pub less-says : {z y : ℤ} {a b c d : ℕ} → Diff z a b → Diff y c d → ltZ z y ≡ true → a + d < c + b
+less-says {a = a} {b = b} {c = c} {d = d} p q h =
+    ltb-true (a + d) (c + b) (sym (is-less p q (a + d) (c + b) (λ k. k) (λ k. k)) ∙ h)
+
 -- two orders that go together
 pub same-order : {z y x w : ℤ} {a b c d e f g h : ℕ} → Diff z a b → Diff y c d → Diff x e f → Diff w g h
     → (a + d < c + b → e + h < g + f) → (c + b ≤ a + d → g + f ≤ e + h) → ltZ z y ≡ ltZ x w
 same-order {a = a} {b = b} {c = c} {d = d} {e = e} {f = f} {g = g} {h = h} p q r s less not-less =
     is-less p q (e + h) (g + f) less not-less ∙ sym (is-less r s (e + h) (g + f) (λ k. k) (λ k. k))
+
+-- z ≤ y, by the parts, both ways
+pub at-most-says : (z y : ℤ) → leZ z y ≡ true → plusPart z + minusPart y ≤ plusPart y + minusPart z
+at-most-says (pos a) (pos b) h = omega (arith, leb-true a b h)
+at-most-says (pos a) (negsuc b) h = absurd (false≢true h)
+at-most-says (negsuc a) (pos b) h = omega arith
+at-most-says (negsuc a) (negsuc b) h = omega (arith, leb-true b a h)
+
+at-most-yes : (z y : ℤ) → plusPart z + minusPart y ≤ plusPart y + minusPart z → leZ z y ≡ true
+at-most-yes (pos a) (pos b) h = le-leb a b (omega arith)
+at-most-yes (pos a) (negsuc b) h = absurd (omega arith)
+at-most-yes (negsuc a) (pos b) h = refl
+at-most-yes (negsuc a) (negsuc b) h = le-leb b a (omega arith)
+
+-- of two integers one is at most the other
+pub at-most-or : (z y : ℤ) → leZ z y ≡ false → leZ y z ≡ true
+at-most-or (pos a) (pos b) h = le-leb b a (omega (arith, leb-false a b h))
+at-most-or (pos a) (negsuc b) h = refl
+at-most-or (negsuc a) (pos b) h = sym h
+at-most-or (negsuc a) (negsuc b) h = le-leb a b (omega (arith, leb-false b a h))
+
+pub at-most-self : (z : ℤ) → leZ z z ≡ true
+at-most-self z = at-most-yes z z (omega arith)
+
+pub at-most-then : (x y z : ℤ) → leZ x y ≡ true → leZ y z ≡ true → leZ x z ≡ true
+at-most-then x y z h k = at-most-yes x z (omega (arith, at-most-says x y h, at-most-says y z k))
 
 -- the parts of one integer
 sub-parts : (a b : ℕ) → plusPart (subℕ a b) + b ≡ a + minusPart (subℕ a b)

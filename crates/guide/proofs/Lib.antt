@@ -9,6 +9,7 @@ pub mod Kind
 pub mod Word
 pub mod Without
 pub mod Limits
+pub mod PassesBetween
 pub mod Rejection
 pub mod InOrder
 pub mod LastWords

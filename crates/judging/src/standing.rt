@@ -1,5 +1,6 @@
 // What soundness asks of the words by the limits, and of the status and the open verdict: document 01, "Stored form".
 use crate::verdict::verdict;
+use extremes::extremes_of;
 use limits::Limits;
 use limits::beyond_control;
 ghost use mathlib.Core.Path.{_≡_};
@@ -33,18 +34,16 @@ fn held_count(m: usize, status: u16) -> usize
     m - 1
 }
 
+// A word between two that lie within the limits lies within, so the least and the greatest decide.
 fn none_beyond_control(l: Limits, words: &[i16]) -> bool
     requires { ⌜ Bounded (l .sums) ⌝ }
     ensures { λ r. ⌜ r ≡ noneOf (beyondControl (limitsSay l)) (now (words .entry)) ⌝ }
 {
-    let mut i: usize = 0;
-    while i < words.len() {
-        if beyond_control(l, words[i]) {
-            return false;
-        }
-        i += 1;
+    if words.len() == 0 {
+        return true;
     }
-    true
+    let e = extremes_of(words);
+    !beyond_control(l, e.least) & !beyond_control(l, e.greatest)
 }
 
 // The status and the open verdict go together.

@@ -2,7 +2,6 @@
 -- (`has-lines`), and a word is beyond a line exactly if it is beyond the exact limit (`lines-compared`). One that is not sound is declined.
 use mathlib.Core.Path.{_≡_, ap, _∙_}
 use mathlib.Core.Bool.{true, false}
-use Prim.Native.Nat.{ℕ}
 use native.Mathlib.Omega.{arith}
 use lib.ListN.{length}
 use lib.IntN.{ℤ, natAbs}
@@ -18,7 +17,6 @@ use Rattle.guide.specs.Double.{doubleOf}
 use Rattle.guide.specs.Lines.{upperLine, lowerLine, meanLine}
 use Rattle.guide.specs.ChartLines as guide
 use Rattle.guide.specs.ChartLines.{linesGiven, refused, linesOf, beyondEach}
-use Rattle.guide.proofs.Booleans.{by-test}
 use Rattle.guide.proofs.Held.{word-small}
 use Rattle.guide.proofs.Limits.{v-natural}
 use Rattle.guide.proofs.Lines.{judged-by-lines, in-range-squares}
@@ -75,10 +73,15 @@ module _ (c : Chart) (t : soundChart c ≡ true) where
         squares = omega (arith, in-range-squares (s .kind) (s .base) (facts .base-in-range));
       }
 
-  pub lines-given : (lines : Lines) (l : Limits) → AreLimits (c .kind) (stateOf c .base) l → linesSay lines ≡ linesOf (limitsSay l)
-      → linesGiven (linesSay lines) ≡ answerToLines c
-  unfolding answerToLines limitsFor stateOf
-  lines-given lines l are e = rw t (ap linesGiven (e ∙ ap linesOf (are .same)))
+  -- the lines that the limits of its base give are its lines
+  pub lines-are : (lines : Lines) (l : Limits) → AreLimits (c .kind) (stateOf c .base) l → linesSay lines ≡ linesOf (limitsSay l)
+      → linesSay lines ≡ linesOf (limitsFor (stateOf c))
+  unfolding limitsFor stateOf
+  lines-are lines l are e = e ∙ ap linesOf (are .same)
+
+  pub lines-given : (lines : Lines) → linesSay lines ≡ linesOf (limitsFor (stateOf c)) → linesGiven (linesSay lines) ≡ answerToLines c
+  unfolding answerToLines
+  lines-given lines e = rw t (ap linesGiven e)
 
   -- a word against its lines is the word against its limits
   judged-by-chart : (w : ℤ) → guide.beyondLines (linesOf (limitsFor (stateOf c))) w ≡ beyondEach (limitsFor (stateOf c)) w
@@ -88,33 +91,25 @@ module _ (c : Chart) (t : soundChart c ≡ true) where
       let facts = sound-facts s (sound-chart-facts c t .state) in
       judged-by-lines (limitsFor s) w (omega (arith, facts .base-least)) (v-natural (s .base))
 
+  pub lines-compared : (w : ℤ) (lines : Lines) (b : BeyondEach) → SFits w16 w → linesSay lines ≡ linesOf (limitsFor (stateOf c))
+      → beyondSays b ≡ floatBeyond (linesSay lines) (toZ w16 (ofZ w16 w)) → beyondSays b ≡ beyondEach (limitsFor (stateOf c)) w
+  lines-compared w lines b fit same is =
+      let limits = limitsFor (stateOf c) in
+      let held : beyondSays b ≡ floatBeyond (linesSay lines) w = rw (toZ-ofZ fit) at is in
+      let few = word-small fit in
+      held ∙ ap (λ x. floatBeyond x w) same ∙ float-beyond w (omega arith) limits ∙ judged-by-chart w
+
+  pub comparison-given : (w : ℤ) (b : BeyondEach) → beyondSays b ≡ beyondEach (limitsFor (stateOf c)) w
+      → compared (beyondSays b) ≡ answerToAgainst c w
+  unfolding answerToAgainst
+  comparison-given w b e = rw t (ap compared e)
+
 -- ---- one that is not sound
 
 pub lines-declined : (c : Chart) → soundChart c ≡ false → refused 14 ≡ answerToLines c
 unfolding answerToLines
 lines-declined c t = rw t
 
--- ---- a word against the lines that were answered
-
-module _ (c : Chart) (w : ℤ) where
-  pub lines-compared : (lines : Lines) (b : BeyondEach) → SFits w16 w → linesGiven (linesSay lines) ≡ answerToLines c
-      → beyondSays b ≡ floatBeyond (linesSay lines) (toZ w16 (ofZ w16 w)) → compared (beyondSays b) ≡ answerToAgainst c w
-  unfolding answerToLines answerToAgainst
-  lines-compared lines b fit e is =
-      let limits = limitsFor (stateOf c) in
-      by-test (soundChart c)
-      (λ t. let f : linesGiven (linesSay lines) ≡ linesGiven (linesOf limits) = rw t at e in
-      let same : linesSay lines ≡ linesOf limits = cc in
-      let held : beyondSays b ≡ floatBeyond (linesSay lines) w = rw (toZ-ofZ fit) at is in
-      let few = word-small fit in
-      rw t (ap compared (held ∙ ap (λ x. floatBeyond x w) same ∙ float-beyond w (omega arith) limits ∙ judged-by-chart c t w)))
-      (λ t. let f : linesGiven (linesSay lines) ≡ refused 14 = rw t at e in
-      let z : _≡_ {A = ℕ} 0 1 = cc in absurd (omega arith))
-
-  pub comparison-declined : (n : ℕ) → refused n ≡ answerToLines c → declined n ≡ answerToAgainst c w
-  unfolding answerToLines answerToAgainst
-  comparison-declined n e =
-      by-test (soundChart c)
-      (λ t. let f : refused n ≡ linesGiven (linesOf (limitsFor (stateOf c))) = rw t at e in
-      let z : _≡_ {A = ℕ} 0 1 = cc in absurd (omega arith))
-      (λ t. let f : refused n ≡ refused 14 = rw t at e in rw t (let same : n ≡ 14 = cc in ap declined same))
+pub comparison-declined : (c : Chart) (w : ℤ) → soundChart c ≡ false → declined 14 ≡ answerToAgainst c w
+unfolding answerToAgainst
+comparison-declined c w t = rw t

@@ -16,12 +16,16 @@ use parts::lower_parts;
 use parts::mean_parts;
 use parts::upper_parts;
 ghost use mathlib.Core.Path.{_≡_};
+ghost use mathlib.Core.Bool.{true};
 ghost use Prim.Native.Nat.{_≤_, _^_};
 ghost use lib.IntN.{natAbs};
 ghost use Rattle.guide.specs.Double.{doubleOf};
 ghost use Rattle.guide.specs.Lines as guide;
-ghost use Rattle.guide.specs.ChartLines.{linesOf};
+ghost use Rattle.guide.specs.State.{limitsFor};
+ghost use Rattle.guide.specs.ChartLines.{linesOf, beyondEach};
 ghost use Rattle.limits.specs.Sums.{sumsSay, limitsSay};
+ghost use Rattle.chart.specs.Chart.{stateOf};
+ghost use Rattle.chart.specs.Soundness.{soundChart};
 ghost use Rattle.lines.specs.Lines.{beyondSays, floatAbove, floatBelow, floatBeyond, partsHeld};
 ghost use Rattle.lines.specs.Lines.{HasLines, linesSay, linesAnswerSays, againstSays, answerToLines, answerToAgainst};
 
@@ -68,22 +72,39 @@ pub fn lines_of(chart: Chart) -> LinesAnswer
     if !chart.sound() {
         return LinesAnswer::Refused(14);
     }
-    let base = chart.base;
-    let n = chart.base_len;
-    let l = limits_of(chart.kind, &base[..n]);
-    LinesAnswer::Done(lines_by(l))
+    LinesAnswer::Done(lines_of_sound(chart))
 }
 
 // A word against the lines of a chart: the same answer as by the exact limits.
 pub fn against_lines(chart: Chart, word: i16) -> AgainstAnswer
     ensures { λ r. ⌜ againstSays r ≡ answerToAgainst chart word ⌝ }
 {
-    let answer = lines_of(chart);
-    match answer {
-        LinesAnswer::Done(l) => AgainstAnswer::Done(beyond_lines(l, word)),
-        LinesAnswer::Refused(n) => AgainstAnswer::Refused(n),
+    if !chart.sound() {
+        return AgainstAnswer::Refused(14);
     }
+    AgainstAnswer::Done(against_lines_sound(chart, word))
 }
+
+// ---- the same of a chart that is known to be sound, as one that was just read is
+
+pub fn lines_of_sound(chart: Chart) -> Lines
+    requires { ⌜ soundChart chart ≡ true ⌝ }
+    ensures { λ r. ⌜ linesSay r ≡ linesOf (limitsFor (stateOf chart)) ⌝ }
+{
+    let base = chart.base;
+    let n = chart.base_len;
+    let l = limits_of(chart.kind, &base[..n]);
+    lines_by(l)
+}
+
+pub fn against_lines_sound(chart: Chart, word: i16) -> BeyondEach
+    requires { ⌜ soundChart chart ≡ true ⌝ }
+    ensures { λ r. ⌜ beyondSays r ≡ beyondEach (limitsFor (stateOf chart)) word ⌝ }
+{
+    beyond_lines(lines_of_sound(chart), word)
+}
+
+// ---- a word against doubles
 
 // A word against lines, whatever their doubles are.
 pub fn beyond_lines(lines: Lines, word: i16) -> BeyondEach

@@ -10,21 +10,16 @@ use lib.ListN.{length, drop, getD, replicate, length-map}
 use lib.Seq.{drop-drop}
 use Rattle.guide.specs.Choice.{choose}
 use Rattle.guide.specs.Sizes.{baseMost, seriesMost}
-use Rattle.guide.specs.State.{State}
 use Rattle.guide.specs.Soundness.{sound}
 use Rattle.guide.specs.Bytes.{numbersIn, wordOf}
 use Rattle.guide.specs.Reading.{countIn, recordNumbers, afterRecord, isRecord, fromBase, fromSeries, headCount}
 use Rattle.guide.specs.Reading.{isForm, heldIn, taken, refused, reading}
-use Rattle.guide.proofs.Booleans.{by-test}
 use Rattle.guide.proofs.Reading.{FormFacts, form-facts}
 use Rattle.chart.specs.Pad.{pad}
 use Rattle.chart.specs.declared.Chart.{Chart}
 use Rattle.chart.specs.Chart.{stateOf, chartOf}
-use Rattle.chart.specs.Soundness.{soundChart}
 use Rattle.chart.proofs.Places.{drop-replicate}
-use Rattle.chart.proofs.SoundCharts.{sound-chart-facts}
 use Rattle.chart.proofs.State.{state-of-chart}
-use Rattle.chart.proofs.Runs.{sound-chart-of}
 use Rattle.store.specs.declared.records.Place.{Place}
 use Rattle.store.specs.declared.Layout.the-variants as layout
 use Rattle.store.specs.declared.ReadAnswer.the-variants as read
@@ -160,6 +155,14 @@ module _ (bytes : List ℕ) (head base series : Place) (l : Laid bytes head base
         «open_verdict» = (verdict-is ∙ ap (λ (l : List ℕ). getD l 2 0) head-numbers) i;
       }
 
+  -- its lengths lie within its arrays
+  pub held-few : (c : Chart) → c ≡ chartOf (heldIn bytes) → (c .«base_len» ≤ baseMost) × (c .«series_len» ≤ seriesMost)
+  unfolding chartOf heldIn
+  held-few c is =
+      let of-base = ap (λ (x : Chart). x .«base_len») is ∙ sym (words-count base _ (ap (map wordOf) base-numbers)) in
+      let of-series = ap (λ (x : Chart). x .«series_len») is ∙ sym (words-count series _ (ap (map wordOf) series-numbers)) in
+      (omega (arith, of-base, base-few), omega (arith, of-series, series-few))
+
 -- ---- reading, by its cases
 
 -- no layout is found only where there is no form
@@ -171,30 +174,20 @@ pub read-no-form : (bytes : List ℕ) → layoutOf bytes ≡ layout.Other → re
 unfolding layoutOf reading
 read-no-form bytes e = rw (no-layout (isForm bytes) (headPlace bytes) (basePlace bytes) (seriesPlace bytes) e)
 
--- the chart that stands for a state is sound if the state is, and only then
-state-sound : (s : State) → soundChart (chartOf s) ≡ true → sound s ≡ true
-state-sound s h = ap sound (sym (state-of-chart s)) ∙ sound-chart-facts (chartOf s) h .state
-
-state-unsound : (s : State) → soundChart (chartOf s) ≡ false → sound s ≡ false
-state-unsound s h =
-    by-test (sound s)
-    (λ t. absurd (let is = sound-chart-of s t in let z : _≡_ {A = ℕ} 0 1 = cc in omega arith))
-    (λ t. t)
-
 module _ (bytes : List ℕ) (form : isForm bytes ≡ true) (c : Chart) (is : c ≡ chartOf (heldIn bytes)) where
-  pub read-unsound : soundChart c ≡ false → reading bytes ≡ refused 14
-  unfolding reading
-  read-unsound h = rw (form, state-unsound (heldIn bytes) (ap soundChart (sym is) ∙ h))
+  -- the chart's state is what the bytes hold
+  same-state : stateOf c ≡ heldIn bytes
+  same-state = ap stateOf is ∙ state-of-chart (heldIn bytes)
 
-  pub read-done : soundChart c ≡ true → IsRead (reading bytes) (record { chart = c; answer = read.Done })
+  pub read-unsound : sound (stateOf c) ≡ false → reading bytes ≡ refused 14
+  unfolding reading
+  read-unsound h = rw (form, ap sound (sym same-state) ∙ h)
+
+  pub read-done : sound (stateOf c) ≡ true → IsRead (reading bytes) (record { chart = c; answer = read.Done })
   unfolding readSays chartAfterReading reading
   read-done h =
-      let held = heldIn bytes in
-      let done : reading bytes ≡ taken held = rw (form, state-sound held (ap soundChart (sym is) ∙ h)) in
-      record {
-        chart = is ∙ ap chartAfterReading (sym done);
-        says = ap (λ (x : Chart). taken (stateOf x)) is ∙ (ap taken (state-of-chart held) ∙ sym done);
-      }
+      let done : reading bytes ≡ taken (heldIn bytes) = rw (form, ap sound (sym same-state) ∙ h) in
+      record { chart = is ∙ ap chartAfterReading (sym done); says = ap taken same-state ∙ sym done }
 
 -- an answer that was given for bytes that are declined by this number
 pub read-declined : (bytes : List ℕ) (n : ℕ) (r : ReadChart) → reading bytes ≡ refused n → IsRead (refused n) r → IsRead (reading bytes) r

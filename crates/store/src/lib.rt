@@ -76,6 +76,14 @@ pub fn write(chart: Chart, out: &mut [u8]) -> WriteAnswer
     if !chart.sound() {
         return WriteAnswer::Refused(14);
     }
+    write_sound(chart, out)
+}
+
+// The same, of a chart that is known to be sound, as one that was just read is and the chart that a call on it gives back.
+pub fn write_sound(chart: Chart, out: &mut [u8]) -> WriteAnswer
+    requires { ⌜ soundChart chart ≡ true ⌝ }
+    ensures { λ r. ⌜ Writes chart (now (out .entry)) (now (out .exit)) r ⌝ }
+{
     if out.len() < form_size(chart.base_len, chart.series_len) {
         return WriteAnswer::Refused(15);
     }
@@ -90,7 +98,7 @@ pub fn read(bytes: &[u8]) -> ReadChart
         return declined_read(13);
     };
     let chart = chart_in(bytes, head, base, series);
-    if !chart.sound() {
+    if !chart.state_sound() {
         return declined_read(14);
     }
     ReadChart {

@@ -6,6 +6,7 @@
 // of a kind's words, for whoever builds a chart.
 //
 // Tests are joined by `&` and `|`, which evaluate both sides: none can overflow, and the result is the definition's own expression.
+use extremes::extremes_of;
 ghost use mathlib.Core.Path.{_≡_};
 ghost use mathlib.Core.Bool.{true};
 ghost use Prim.Native.Nat.{_+_, _-_, _^_, _≤_, _<_};
@@ -89,19 +90,22 @@ pub fn in_range(kind: u16, w: i64) -> bool
     (WORD_LEAST <= w) & (w <= WORD_MOST)
 }
 
-// Every word is in the range of the kind.
+// Every word is in the range of the kind: the least and the greatest are.
 pub fn all_in_range(kind: u16, words: &[i16]) -> bool
     ensures { λ r. ⌜ r ≡ allInRange kind (now (words .entry)) ⌝ }
 {
-    let mut i: usize = 0;
-    while i < words.len() {
-        let w = words[i];
-        if !in_range(kind, w as i64) {
-            return false;
-        }
-        i += 1;
+    if words.len() == 0 {
+        return true;
     }
-    true
+    let e = extremes_of(words);
+    word_in_range(kind, e.least) & word_in_range(kind, e.greatest)
+}
+
+// `in_range` of a word as charts hold it.
+fn word_in_range(kind: u16, w: i16) -> bool
+    ensures { λ r. ⌜ r ≡ inRange kind w ⌝ }
+{
+    in_range(kind, w as i64)
 }
 
 // Kinds 1 and 2 ignore the third number, whatever it is.

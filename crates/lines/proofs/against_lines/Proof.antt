@@ -1,48 +1,38 @@
--- `lines::against_lines` meets its contract.
-use mathlib.Core.Path.{sym, ap, _∙_}
+-- `lines::against_lines` meets its contract: 14 first, and then the comparison with the lines of a sound chart.
+use mathlib.Core.Path.{_≡_}
+use mathlib.Core.Bool.{true}
 use borrow.Author.Needs.{needs}
-use Rattle.lines.specs.Lines.{linesAnswerSays, againstSays}
-use Rattle.lines.proofs.ChartLines.{lines-compared, comparison-declined}
+use mir.Facts.{toZ-ofZ}
+use Rattle.guide.proofs.Booleans.{answered-no, answered-yes}
+use Rattle.chart.specs.Soundness.{soundChart}
+use Rattle.lines.specs.Lines.{againstSays}
+use Rattle.lines.proofs.ChartLines.{comparison-given, comparison-declined}
 use Rattle.lines.proofs.against_lines.Statement.{statement}
 use Rattle.lines.proofs.against_lines.Tie as tie
 
-lines-of-requires : tie.Need-lines-of-requires
-lines-of-requires c κs = search needs
-
-enum-known-answer : tie.Need-enum-known-answer
-enum-known-answer c = search needs
-
-beyond-lines-requires : tie.Need-beyond-lines-requires
-beyond-lines-requires c κs = search needs
-
-enum-known-answer-2 : tie.Need-enum-known-answer-2
-enum-known-answer-2 c = search needs
+sound-requires : tie.Need-sound-requires
+sound-requires c κs = search needs
 
 returns : tie.Need-returns
-unfolding againstSays linesAnswerSays
+unfolding againstSays
 returns c =
-    let given = c .before .before .answer .given in
-    let called = c .before .before .before .before in
-    let a = called .before in
-    let answered = sym (ap linesAnswerSays (given .1)) ∙ called .lines-of .ensures in
-    lines-compared (a .args .chart) (a .args .word) (given .0 .0) (c .beyond-lines .result) (a .fits .word) answered
-    (c .beyond-lines .ensures)
+    let a = c .before .before .args in
+    comparison-declined (a .chart) (a .word) (answered-no (c .before .sound .ensures) (c .if1 .taken))
+
+-- the chart is sound
+sound-chart : (c : tie.Else1) → soundChart (c .before .before .args .chart) ≡ true
+sound-chart c = answered-yes (c .before .sound .ensures) (c .if1 .left)
+
+against-lines-sound-requires : tie.Need-against-lines-sound-requires
+against-lines-sound-requires c κs = sound-chart c
 
 returns-2 : tie.Need-returns-2
-unfolding againstSays linesAnswerSays
+unfolding againstSays
 returns-2 c =
-    let given = c .before .answer2 .given in
-    let called = c .before .before .before in
-    let a = called .before .args in
-    comparison-declined (a .chart) (a .word) (given .0 .0) (sym (ap linesAnswerSays (given .1)) ∙ called .lines-of .ensures)
+    let s = c .before in
+    let start = s .before .before in
+    comparison-given (start .args .chart) (sound-chart s) (start .args .word) (c .against-lines-sound .result)
+    (rw (toZ-ofZ (start .fits .word)) at (c .against-lines-sound .ensures))
 
 pub against-lines-spec : {M : Type 1} → statement M
-against-lines-spec =
-    tie.close
-    (tie.spec
-    lines-of-requires
-    enum-known-answer
-    beyond-lines-requires
-    enum-known-answer-2
-    returns
-    returns-2)
+against-lines-spec = tie.close (tie.spec sound-requires returns against-lines-sound-requires returns-2)

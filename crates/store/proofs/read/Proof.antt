@@ -4,7 +4,7 @@ use mathlib.Core.Path.{_≡_, sym, _∙_}
 use Rattle.guide.proofs.Booleans.{answered-no, answered-yes}
 use Rattle.store.specs.Records.{layoutOf}
 use Rattle.store.specs.declared.Layout.the-variants.{Form}
-use Rattle.store.proofs.Reading.{laid-out, read-no-form, read-unsound, read-done, read-declined}
+use Rattle.store.proofs.Reading.{laid-out, held-few, read-no-form, read-unsound, read-done, read-declined}
 use Rattle.store.proofs.read.Statement.{statement}
 use Rattle.store.proofs.read.Tie as tie
 
@@ -34,8 +34,8 @@ layout c = sym (c .before .before .before .lay-out .ensures) ∙ c .before .head
 chart-in-requires : tie.Need-chart-in-requires
 chart-in-requires c κs = layout c
 
-sound-requires : tie.Need-sound-requires
-sound-requires c κs = search needs
+state-sound-requires : tie.Need-state-sound-requires
+state-sound-requires c κs = held-few _ _ _ _ (laid-out _ _ _ _ (layout (c .before))) _ (c .chart-in .ensures)
 
 declined-read-requires-2 : tie.Need-declined-read-requires-2
 declined-read-requires-2 c κs = search needs
@@ -44,14 +44,14 @@ returns-2 : tie.Need-returns-2
 returns-2 c =
     let made = c .before .before .before in
     let form = laid-out _ _ _ _ (layout (made .before)) .is-form in
-    let unsound = answered-no (c .before .before .sound .ensures) (c .before .if1 .taken) in
+    let unsound = answered-no (c .before .before .state-sound .ensures) (c .before .if1 .taken) in
     read-declined _ 14 _ (read-unsound _ form _ (made .chart-in .ensures) unsound) (c .declined-read2 .ensures)
 
 returns-3 : tie.Need-returns-3
 returns-3 c =
     let made = c .before .before in
     let form = laid-out _ _ _ _ (layout (made .before)) .is-form in
-    read-done _ form _ (made .chart-in .ensures) (answered-yes (c .before .sound .ensures) (c .if1 .left))
+    read-done _ form _ (made .chart-in .ensures) (answered-yes (c .before .state-sound .ensures) (c .if1 .left))
 
 pub read-spec : {M : Type 1} → statement M
 read-spec =
@@ -63,7 +63,7 @@ read-spec =
     declined-read-requires
     returns
     chart-in-requires
-    sound-requires
+    state-sound-requires
     declined-read-requires-2
     returns-2
     returns-3)

@@ -1,40 +1,25 @@
--- `chart::Chart::correct` meets its contract.
-use mathlib.Core.Path.{_≡_}
+-- `chart::Chart::correct` meets its contract: 14 first, and then the call on a sound chart.
 use borrow.Author.Needs.{needs}
-use Rattle.guide.specs.Machine.{correction, correctionRefusal}
-use Rattle.chart.specs.Chart.{stateOf}
-use Rattle.chart.specs.Calls.{refusalOn, correctionSays}
-use Rattle.chart.proofs.Calls.{call-declined, call-accepted, correction-gives}
+use Rattle.guide.specs.Machine.{correction}
+use Rattle.guide.proofs.Booleans.{answered-no, answered-yes}
+use Rattle.chart.specs.Calls.{correctionSays}
+use Rattle.chart.proofs.Calls.{not-sound}
 use Rattle.chart.proofs.Chart.correct.Statement.{statement}
 use Rattle.chart.proofs.Chart.correct.Tie as tie
 
-status-refusal-requires : tie.Need-status-refusal-requires
-status-refusal-requires c κs = search needs
-
--- the number that the call is declined for
-number : (c : tie.After-status-refusal) → let self = c .before .args .self in
-    c .status-refusal .result ≡ refusalOn self (correctionRefusal (stateOf self))
-unfolding correctionRefusal stateOf
-number c = c .status-refusal .ensures
+sound-requires : tie.Need-sound-requires
+sound-requires c κs = search needs
 
 returns : tie.Need-returns
 unfolding correctionSays
 returns c =
-    let self = c .before .before .args .self in
-    let n = c .before .status-refusal .result in
-    call-declined self correction n (search needs) (search needs) (number (c .before)) (c .if1 .taken)
+    not-sound (c .before .before .args .self) correction (answered-no (c .before .sound .ensures) (c .if1 .taken))
 
-set-status-requires : tie.Need-set-status-requires
-set-status-requires c κs = search needs
+correct-sound-requires : tie.Need-correct-sound-requires
+correct-sound-requires c κs = answered-yes (c .before .sound .ensures) (c .if1 .left)
 
 returns-2 : tie.Need-returns-2
-unfolding correctionSays
-returns-2 c =
-    let called = c .before .before in
-    let self = called .before .args .self in
-    let n = called .status-refusal .result in
-    let accepted = call-accepted self correction n (search needs) (search needs) (number called) (c .before .if1 .left) in
-    correction-gives self (c .set-status .result) accepted (c .set-status .ensures)
+returns-2 c = c .correct-sound .ensures
 
 pub correct-spec : {M : Type 1} → statement M
-correct-spec = tie.close (tie.spec status-refusal-requires returns set-status-requires returns-2)
+correct-spec = tie.close (tie.spec sound-requires returns correct-sound-requires returns-2)

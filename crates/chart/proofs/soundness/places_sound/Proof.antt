@@ -4,28 +4,15 @@ use Rattle.chart.specs.Soundness.{placesSound}
 use Rattle.chart.proofs.soundness.places_sound.Statement.{statement}
 use Rattle.chart.proofs.soundness.places_sound.Tie as tie
 
-slice-aggregate-zero-from : tie.Need-slice-aggregate-zero-from
-slice-aggregate-zero-from c = search needs
-
 zero-from-requires : tie.Need-zero-from-requires
 zero-from-requires c κs = search needs
-
-slice-aggregate-zero-from-2 : tie.Need-slice-aggregate-zero-from-2
-slice-aggregate-zero-from-2 c = search needs
 
 zero-from-requires-2 : tie.Need-zero-from-requires-2
 zero-from-requires-2 c κs = search needs
 
 returns : tie.Need-returns
 unfolding placesSound
-returns c = rw (c .before .before .zero-from .ensures, c .zero-from2 .ensures)
+returns c = rw (c .before .before .before .before .zero-from .ensures, c .zero-from2 .ensures)
 
 pub places-sound-spec : {M : Type 1} → statement M
-places-sound-spec =
-    tie.close
-    (tie.spec
-    slice-aggregate-zero-from
-    zero-from-requires
-    slice-aggregate-zero-from-2
-    zero-from-requires-2
-    returns)
+places-sound-spec = tie.close (tie.spec zero-from-requires zero-from-requires-2 returns)

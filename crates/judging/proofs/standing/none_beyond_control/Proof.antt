@@ -1,93 +1,54 @@
--- `judging::standing::none_beyond_control` meets its contract. The loop's invariant: none of the words is beyond exactly if none of those
--- that remain is.
-use mathlib.Core.Path.{_≡_, refl, sym, ap, _∙_}
+-- `judging::standing::none_beyond_control` meets its contract: a word between two within the control limits is within, so the least and
+-- the greatest word decide.
+use mathlib.Core.Path.{sym, ap}
 use mathlib.Core.Bool.{Bool, not}
-use Prim.Native.Nat.{_-_, _≤_}
 use native.Mathlib.Omega.{arith}
 use borrow.Author.Needs.{needs, sfits-of}
 use denote.Ref.{now}
-use lib.ListN.{length, drop, getD}
-use lib.IntN.{ℤ, pos}
-use mir.Facts.{toZ-ofZ}
+use lib.IntN.{ℤ}
 use Rattle.guide.specs.AllOf.{noneOf}
-use Rattle.guide.specs.Limits.{beyondControl}
-use Rattle.guide.proofs.AllOf.{all-none, all-fails, all-passes}
+use Rattle.guide.specs.Limits.{controlMultiple, beyondControl}
+use Rattle.guide.proofs.AllOf.{all-none}
+use Rattle.guide.proofs.PassesBetween.{within-between}
 use Rattle.limits.specs.Sums.{limitsSay}
+use Rattle.extremes.proofs.Picking.{answers-decide}
 use Rattle.judging.proofs.standing.none_beyond_control.Statement.{statement}
 use Rattle.judging.proofs.standing.none_beyond_control.Tie as tie
 
-abbrev Inv-loop : tie.InvT-loop
-Inv-loop l words i₀ i =
-    (i ≤ length words) × (noneOf (beyondControl (limitsSay l)) (drop i words) ≡ noneOf (beyondControl (limitsSay l)) words)
-
-abbrev μ-loop : tie.MeasureT-loop
-μ-loop l words i₀ i = length words - i
-
-loop-holds : tie.Need-loop-holds Inv-loop μ-loop
-loop-holds c = (omega arith, refl)
-
-mul-beyond-control : tie.Need-mul-beyond-control Inv-loop μ-loop
-mul-beyond-control c = search needs
-
-shared-slice-copy-out-beyond-control : tie.Need-shared-slice-copy-out-beyond-control Inv-loop μ-loop
-shared-slice-copy-out-beyond-control c = search needs
-
-beyond-control-requires : tie.Need-beyond-control-requires Inv-loop μ-loop
-beyond-control-requires c κs = c .before .before .before .pre
-
 -- a word that is not beyond passes
-abbrev test : tie.Start Inv-loop μ-loop → ℤ → Bool
+abbrev test : tie.Start → ℤ → Bool
 test c w = not (beyondControl (limitsSay (c .args .l)) w)
 
--- the call's answer is about the word at i
-tested : (c : tie.After-beyond-control Inv-loop μ-loop) → let start = c .before .before .before .before in
-    not (c .beyond-control .result) ≡ test start (getD (now (start .args .words)) (c .before .before .before .loop .i) (pos 0))
-tested c =
-    let start = c .before .before .before .before in
-    ap not (c .beyond-control .ensures) ∙ ap (test start) (toZ-ofZ (sfits-of (c .before .beyond-control-arg .given)))
-
-returns : tie.Need-returns Inv-loop μ-loop
+returns : tie.Need-returns
 unfolding noneOf
-returns c =
-    let l = c .before .before .before .before in
-    let fails = sym (tested (c .before)) ∙ ap not (c .if1 .taken) in
-    sym (all-fails (test (l .before)) (now (l .before .args .words)) (l .loop .i) (c .before .before .before .loop-test .taken) fails)
-    ∙ l .loop .inv .1
+returns c = sym (all-none (test (c .before)) (now (c .before .args .words)) 0 (omega arith))
 
-add-i : tie.Need-add-i Inv-loop μ-loop
-add-i c = search needs
+extremes-of-requires : tie.Need-extremes-of-requires
+extremes-of-requires c κs = search needs
 
-loop-less : tie.Need-loop-less Inv-loop μ-loop
-loop-less c = omega arith
+beyond-control-requires : tie.Need-beyond-control-requires
+beyond-control-requires c κs = search needs
 
-loop-again : tie.Need-loop-again Inv-loop μ-loop
-unfolding noneOf
-loop-again c =
-    let l = c .before .before .before .before in
-    let words = now (l .before .args .words) in
-    let passes = sym (tested (c .before)) ∙ ap not (c .if1 .left) in (
-      omega arith,
-      sym (all-passes (test (l .before)) words (l .loop .i) (c .before .before .before .loop-test .taken) passes) ∙ l .loop .inv .1,
-    )
+beyond-control-requires-2 : tie.Need-beyond-control-requires-2
+beyond-control-requires-2 c κs = search needs
 
-returns-2 : tie.Need-returns-2 Inv-loop μ-loop
-unfolding noneOf
+returns-2 : tie.Need-returns-2
+unfolding noneOf beyondControl
 returns-2 c =
-    let l = c .before in
-    sym (all-none (test (l .before)) (now (l .before .args .words)) (l .loop .i) (c .loop-test .left)) ∙ l .loop .inv .1
+    let second = c .before in
+    let first = second .before in
+    let called = first .before .before in
+    let start = called .before .before in
+    answers-decide (test start) (within-between controlMultiple (limitsSay (start .args .l))) (now (start .args .words)) (omega arith)
+    (called .extremes-of .ensures) (sfits-of (first .before .struct-told .given .0 .1)) (sfits-of (second .struct-told2 .given .1 .0 .1))
+    (ap not (first .beyond-control .ensures)) (ap not (c .beyond-control2 .ensures))
 
 pub none-beyond-control-spec : {M : Type 1} → statement M
 none-beyond-control-spec =
     tie.close
     (tie.spec
-    Inv-loop
-    μ-loop
-    loop-holds
-    mul-beyond-control
-    shared-slice-copy-out-beyond-control
-    beyond-control-requires
     returns
-    add-i
-    loop-less
-    loop-again
+    extremes-of-requires
+    beyond-control-requires
+    beyond-control-requires-2
     returns-2)

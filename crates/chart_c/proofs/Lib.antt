@@ -1,0 +1,7 @@
+-- Laws that the proofs of several functions use.
+pub mod Fronts
+pub mod SameKind
+pub mod Held
+pub mod Kept
+pub mod Building
+pub mod Drawn

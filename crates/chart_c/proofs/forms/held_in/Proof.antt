@@ -1,0 +1,27 @@
+-- `chart_c::forms::held_in` meets its contract.
+use borrow.Author.Needs.{needs}
+use Rattle.chart_c.proofs.Held.{held-done, held-declined}
+use Rattle.chart_c.proofs.forms.held_in.Statement.{statement}
+use Rattle.chart_c.proofs.forms.held_in.Tie as tie
+
+read-requires : tie.Need-read-requires
+read-requires c κs = search needs
+
+enum-told : tie.Need-enum-told
+enum-told c = search needs
+
+enum-known-answer : tie.Need-enum-known-answer
+enum-known-answer c = search needs
+
+returns : tie.Need-returns
+returns c =
+    let called = c .before .before .before in
+    held-done _ _ (rw (c .enum-told .given .1) at (called .read .ensures))
+
+returns-2 : tie.Need-returns-2
+returns-2 c =
+    let called = c .before .before .before .before in
+    held-declined _ _ _ (rw (c .before .answer .given .1) at (called .read .ensures))
+
+pub held-in-spec : {M : Type 1} → statement M
+held-in-spec = tie.close (tie.spec read-requires enum-told enum-known-answer returns returns-2)

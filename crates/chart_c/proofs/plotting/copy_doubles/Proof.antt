@@ -1,0 +1,71 @@
+-- `chart_c::plotting::copy_doubles` meets its contract. Invariant: the first i doubles stand at the front, and the rest is as it was.
+use mathlib.Core.Path.{_≡_, refl}
+use mathlib.Core.List.{_++_}
+use Prim.Native.Nat.{_-_, _≤_}
+use native.Mathlib.Omega.{arith}
+use borrow.Author.Needs.{needs}
+use denote.Ref.{now}
+use lib.ListN.{length, take, drop}
+use lib.Ieee.{nan}
+use Rattle.chart_c.proofs.Fronts.{front-more, front-all}
+use Rattle.chart_c.proofs.plotting.copy_doubles.Statement.{statement}
+use Rattle.chart_c.proofs.plotting.copy_doubles.Tie as tie
+
+abbrev Inv-loop : tie.InvT-loop
+Inv-loop doubles buffer₀ i₀ buffer i =
+    (i ≤ length doubles) × ((length buffer ≡ length buffer₀) × (buffer ≡ take i doubles ++ drop i buffer₀))
+
+abbrev μ-loop : tie.MeasureT-loop
+μ-loop doubles buffer₀ i₀ buffer i = length doubles - i
+
+loop-holds : tie.Need-loop-holds Inv-loop μ-loop
+loop-holds c = (search needs, (refl, refl))
+
+mul-buffer : tie.Need-mul-buffer Inv-loop μ-loop
+mul-buffer c = search needs
+
+shared-slice-read-buffer : tie.Need-shared-slice-read-buffer Inv-loop μ-loop
+shared-slice-read-buffer c = search needs
+
+mul-buffer-2 : tie.Need-mul-buffer-2 Inv-loop μ-loop
+mul-buffer-2 c = search needs
+
+slice-write-buffer : tie.Need-slice-write-buffer Inv-loop μ-loop
+slice-write-buffer c = search needs
+
+add-i : tie.Need-add-i Inv-loop μ-loop
+add-i c = search needs
+
+loop-less : tie.Need-loop-less Inv-loop μ-loop
+loop-less c = search needs
+
+loop-again : tie.Need-loop-again Inv-loop μ-loop
+loop-again c =
+    let at = c .before .before in
+    let a = at .before .args in
+    (search needs, (search needs, front-more (now (a .doubles)) (now (a .buffer)) (at .loop .i) nan (omega arith) (omega arith) (at .loop .inv .1 .1) refl))
+
+same-length : tie.Need-same-length Inv-loop μ-loop
+same-length c = search needs
+
+returns : tie.Need-returns Inv-loop μ-loop
+returns c =
+    let a = c .before .before .args in
+    front-all (now (a .doubles)) (now (a .buffer)) (c .before .loop .i) (omega arith) (c .before .loop .inv .1 .1)
+
+pub copy-doubles-spec : {M : Type 1} → statement M
+copy-doubles-spec =
+    tie.close
+    (tie.spec
+    Inv-loop
+    μ-loop
+    loop-holds
+    mul-buffer
+    shared-slice-read-buffer
+    mul-buffer-2
+    slice-write-buffer
+    add-i
+    loop-less
+    loop-again
+    same-length
+    returns)

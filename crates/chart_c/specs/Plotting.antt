@@ -1,0 +1,69 @@
+-- Lines, a word against them, and the check of a stored form. These calls change no chart: the bytes that are lent are the form.
+use mathlib.Core.Path.{_≡_}
+use mathlib.Core.Bool.{Bool, _&&_}
+use mathlib.Core.List.{List, [], _∷_}
+use Prim.Native.Nat.{ℕ}
+use lib.ListN.{length}
+use lib.Dec.{leb}
+use lib.IntN.{ℤ, pos, negℤ}
+use lib.Signed.{leZ}
+use lib.Ieee.{Float}
+use Rattle.guide.specs.Choice.{require}
+use Rattle.guide.specs.State.{State, limitsFor}
+use Rattle.guide.specs.Reading.{reading}
+use Rattle.guide.specs.ChartLines.{Lines, duplicate, twoSided, linesOf, BeyondEach, beyondEach}
+use Rattle.chart_c.specs.Outcome.{Outcome, done, declined, numberOf, lentAfter, andThen, atFront, flag}
+use Rattle.chart_c.specs.Forms.{readingOutcome}
+
+-- the chart that the bytes hold: 13, 14
+unfoldable pub chartIn : List ℕ → Outcome State
+chartIn bytes = readingOutcome (reading bytes)
+
+-- ---- lines: 13, 14, 15
+
+-- "three or five doubles", in the order in which `guide`'s lines have them
+unfoldable pub doublesOf : Lines → List Float
+doublesOf (duplicate mean upperWarning upperControl) = mean ∷ upperWarning ∷ upperControl ∷ []
+doublesOf (twoSided mean lowerWarning upperWarning lowerControl upperControl) =
+    mean ∷ lowerWarning ∷ upperWarning ∷ lowerControl ∷ upperControl ∷ []
+
+-- a buffer too short for the doubles is declined with 15
+unfoldable pub doublesInto : List Float → List Float → Outcome (List Float)
+doublesInto buffer doubles = require (leb (length doubles) (length buffer)) (declined 15) (done doubles)
+
+unfoldable pub drawn : List ℕ → List Float → Outcome (List Float)
+drawn bytes buffer = andThen (chartIn bytes) (λ (s : State). doublesInto buffer (doublesOf (linesOf (limitsFor s))))
+
+-- the doubles go to the front of the buffer, and how many they are is answered
+pub record Draws (o : Outcome (List Float)) (before after : List Float) (count count' number : ℕ) : Type 0 where
+  pub answered : number ≡ numberOf o
+  pub buffer : after ≡ lentAfter (λ (doubles : List Float). atFront doubles before) before o
+  pub of-count : count' ≡ lentAfter length count o
+
+-- ---- a word against the lines: 13, 14, 7, 15
+
+-- "A word is a signed sixteen-bit whole number"
+unfoldable pub isWord : ℤ → Bool
+isWord z = leZ (negℤ (pos 32768)) z && leZ z (pos 32767)
+
+unfoldable pub flagsOf : BeyondEach → List ℕ
+flagsOf b = flag (b .lowerWarning) ∷ flag (b .upperWarning) ∷ flag (b .lowerControl) ∷ flag (b .upperControl) ∷ []
+
+-- what is no word is declined with 7, a buffer of fewer than four bytes with 15
+unfoldable pub comparedInto : List ℕ → ℤ → State → Outcome BeyondEach
+comparedInto buffer w s =
+    require (isWord w) (declined 7)
+    (require (leb 4 (length buffer)) (declined 15)
+    (done (beyondEach (limitsFor s) w)))
+
+unfoldable pub compared : List ℕ → ℤ → List ℕ → Outcome BeyondEach
+compared bytes w buffer = andThen (chartIn bytes) (comparedInto buffer w)
+
+pub record Compares (o : Outcome BeyondEach) (before after : List ℕ) (number : ℕ) : Type 0 where
+  pub answered : number ≡ numberOf o
+  pub buffer : after ≡ lentAfter (λ (b : BeyondEach). atFront (flagsOf b) before) before o
+
+-- ---- the check of a stored form: 13, 14
+
+pub record Checks (bytes : List ℕ) (number : ℕ) : Type 0 where
+  pub answered : number ≡ numberOf (chartIn bytes)

@@ -1,0 +1,268 @@
+// The C interface. Every call of document 01 over numbers and lent buffers, the chart always in its stored form in a buffer that the caller
+// lends: `include/control_chart.h` tells each in plain words, and a change here is a change there.
+//
+// Each function answers 0, or the number of a refusal, which leaves everything that was lent as it was. A chart is read from its bytes
+// (13, 14), the call is made (its own numbers, in the paper's order), and the chart after it is written (15). A slice passes as a pointer
+// and a length, a `&mut` number as a pointer.
+mod forms;
+mod plotting;
+
+use chart::BuildAnswer;
+use chart::Chart;
+use chart::CorrectionAnswer;
+use chart::PostAnswer;
+use chart::ReanalysisAnswer;
+use chart::RenewalAnswer;
+use forms::held_at_front;
+use forms::held_in;
+use forms::kind_of;
+use forms::put_chart;
+use lines::against_lines_sound;
+use lines::lines_of_sound;
+use plotting::BEYOND_SIZE;
+use plotting::flag_of;
+use plotting::is_word;
+use plotting::put_beyond;
+use plotting::put_lines;
+use words::Formed;
+ghost use mathlib.Core.Path.{_≡_};
+ghost use mathlib.Core.Bool.{true};
+ghost use Rattle.guide.specs.Word.{wordAlone};
+ghost use Rattle.guide.specs.Building.{building};
+ghost use Rattle.guide.specs.Machine as machine;
+ghost use Rattle.chart.specs.Chart.{stateOf};
+ghost use Rattle.chart.specs.Soundness.{soundChart};
+ghost use Rattle.chart_c.specs.Calls.{formedOutcome, FormsWord, builtOutcome, BuildsInto, called, KeepsNext, Posts, Reanalyses, Renews, reanalysedOutcome};
+ghost use Rattle.chart_c.specs.Plotting.{drawn, Draws, compared, Compares, Checks};
+
+// A kind is brought as a number of 32 bits, so that one which sixteen bits do not hold is not cut to a kind on its way here.
+#[no_mangle]
+pub extern "C" fn control_chart_word(kind: u32, a: i64, b: i64, c: i64, word: &mut i16) -> u16
+    ensures { λ r. ⌜ FormsWord (formedOutcome (wordAlone kind a b c)) (now (word .entry)) (now (word .exit)) r ⌝ }
+{
+    let formed = words::word(kind_of(kind), a, b, c);
+    match formed {
+        Formed::Word(w) => {
+            *word = w;
+            0
+        }
+        Formed::Refused(n) => n,
+    }
+}
+
+#[no_mangle]
+pub extern "C" fn control_chart_build(
+    kind: u32,
+    words: &[i16],
+    chart: &mut [u8],
+    size: &mut usize,
+    rounds: &mut usize,
+    removed: &mut usize,
+) -> u16
+    ensures { λ r. ⌜ BuildsInto (builtOutcome (now (chart .entry)) (building kind (now (words .entry)))) (now (chart .entry)) (now (chart .exit)) (now (size .entry)) (now (size .exit)) (now (rounds .entry)) (now (rounds .exit)) (now (removed .entry)) (now (removed .exit)) r ⌝ }
+{
+    let built = Chart::build(kind_of(kind), words);
+    let next = built.chart;
+    let answer = built.answer;
+    match answer {
+        BuildAnswer::Done {
+            rounds: counted,
+            removed: taken_out,
+        } => {
+            let number = put_chart(next, chart, size);
+            if number != 0 {
+                return number;
+            }
+            *rounds = counted;
+            *removed = taken_out;
+            0
+        }
+        BuildAnswer::Refused(n) => n,
+    }
+}
+
+#[no_mangle]
+pub extern "C" fn control_chart_post(
+    chart: &mut [u8],
+    size: &mut usize,
+    kind: u32,
+    a: i64,
+    b: i64,
+    c: i64,
+    word: &mut i16,
+    verdict: &mut u16,
+) -> u16
+    ensures { λ r. ⌜ Posts (called (now (chart .entry)) (now (size .entry)) (machine.post kind a b c)) (now (chart .entry)) (now (chart .exit)) (now (size .entry)) (now (size .exit)) (now (word .entry)) (now (word .exit)) (now (verdict .entry)) (now (verdict .exit)) r ⌝ }
+{
+    let held = held_at_front(chart, *size);
+    let before = held.chart;
+    let refusal = held.number;
+    if refusal != 0 {
+        return refusal;
+    }
+    let posted = before.post_sound(kind_of(kind), a, b, c);
+    let next = posted.chart;
+    let answer = posted.answer;
+    match answer {
+        PostAnswer::Judged {
+            word: w,
+            verdict: v,
+        } => {
+            let number = put_chart(next, chart, size);
+            if number != 0 {
+                return number;
+            }
+            *word = w;
+            *verdict = v;
+            0
+        }
+        PostAnswer::Refused(n) => n,
+    }
+}
+
+#[no_mangle]
+pub extern "C" fn control_chart_reanalyse(
+    chart: &mut [u8],
+    size: &mut usize,
+    kind: u32,
+    a: i64,
+    b: i64,
+    c: i64,
+    word: &mut i16,
+    passed: &mut u8,
+) -> u16
+    ensures { λ r. ⌜ Reanalyses (called (now (chart .entry)) (now (size .entry)) (machine.reanalysis kind a b c)) (now (chart .entry)) (now (chart .exit)) (now (size .entry)) (now (size .exit)) (now (word .entry)) (now (word .exit)) (now (passed .entry)) (now (passed .exit)) r ⌝ }
+{
+    let held = held_at_front(chart, *size);
+    let before = held.chart;
+    let refusal = held.number;
+    if refusal != 0 {
+        return refusal;
+    }
+    let reanalysed = before.reanalyse_sound(kind_of(kind), a, b, c);
+    let next = reanalysed.chart;
+    let answer = reanalysed.answer;
+    match answer {
+        ReanalysisAnswer::Passed(w) => put_reanalysed(next, w, true, chart, size, word, passed),
+        ReanalysisAnswer::Failed(w) => put_reanalysed(next, w, false, chart, size, word, passed),
+        ReanalysisAnswer::Refused(n) => n,
+    }
+}
+
+// What a reanalysis leaves that was not declined; or 15, and all is as it was.
+fn put_reanalysed(
+    next: Chart,
+    w: i16,
+    passes: bool,
+    chart: &mut [u8],
+    size: &mut usize,
+    word: &mut i16,
+    passed: &mut u8,
+) -> u16
+    requires { ⌜ soundChart next ≡ true ⌝ }
+    ensures { λ r. ⌜ Reanalyses (reanalysedOutcome (now (chart .entry)) (stateOf next) w passes) (now (chart .entry)) (now (chart .exit)) (now (size .entry)) (now (size .exit)) (now (word .entry)) (now (word .exit)) (now (passed .entry)) (now (passed .exit)) r ⌝ }
+{
+    let number = put_chart(next, chart, size);
+    if number != 0 {
+        return number;
+    }
+    *word = w;
+    *passed = flag_of(passes);
+    0
+}
+
+#[no_mangle]
+pub extern "C" fn control_chart_correct(chart: &mut [u8], size: &mut usize) -> u16
+    ensures { λ r. ⌜ KeepsNext (called (now (chart .entry)) (now (size .entry)) machine.correction) (now (chart .entry)) (now (chart .exit)) (now (size .entry)) (now (size .exit)) r ⌝ }
+{
+    let held = held_at_front(chart, *size);
+    let before = held.chart;
+    let refusal = held.number;
+    if refusal != 0 {
+        return refusal;
+    }
+    let corrected = before.correct_sound();
+    let next = corrected.chart;
+    let answer = corrected.answer;
+    match answer {
+        CorrectionAnswer::Done => put_chart(next, chart, size),
+        CorrectionAnswer::Refused(n) => n,
+    }
+}
+
+#[no_mangle]
+pub extern "C" fn control_chart_renew(
+    chart: &mut [u8],
+    size: &mut usize,
+    rounds: &mut usize,
+    removed: &mut usize,
+) -> u16
+    ensures { λ r. ⌜ Renews (called (now (chart .entry)) (now (size .entry)) machine.renewal) (now (chart .entry)) (now (chart .exit)) (now (size .entry)) (now (size .exit)) (now (rounds .entry)) (now (rounds .exit)) (now (removed .entry)) (now (removed .exit)) r ⌝ }
+{
+    let held = held_at_front(chart, *size);
+    let before = held.chart;
+    let refusal = held.number;
+    if refusal != 0 {
+        return refusal;
+    }
+    let renewed = before.renew_sound();
+    let next = renewed.chart;
+    let answer = renewed.answer;
+    match answer {
+        RenewalAnswer::Done {
+            rounds: counted,
+            removed: taken_out,
+        } => {
+            let number = put_chart(next, chart, size);
+            if number != 0 {
+                return number;
+            }
+            *rounds = counted;
+            *removed = taken_out;
+            0
+        }
+        RenewalAnswer::Refused(n) => n,
+    }
+}
+
+#[no_mangle]
+pub extern "C" fn control_chart_lines(chart: &[u8], lines: &mut [f64], count: &mut usize) -> u16
+    ensures { λ r. ⌜ Draws (drawn (now (chart .entry)) (now (lines .entry))) (now (lines .entry)) (now (lines .exit)) (now (count .entry)) (now (count .exit)) r ⌝ }
+{
+    let held = held_in(chart);
+    let before = held.chart;
+    let refusal = held.number;
+    if refusal != 0 {
+        return refusal;
+    }
+    put_lines(lines_of_sound(before), lines, count)
+}
+
+// A word is brought as a number of 32 bits too, and what is no number of sixteen bits is declined with 7.
+#[no_mangle]
+pub extern "C" fn control_chart_against_lines(chart: &[u8], word: i32, beyond: &mut [u8]) -> u16
+    ensures { λ r. ⌜ Compares (compared (now (chart .entry)) word (now (beyond .entry))) (now (beyond .entry)) (now (beyond .exit)) r ⌝ }
+{
+    let held = held_in(chart);
+    let before = held.chart;
+    let refusal = held.number;
+    if refusal != 0 {
+        return refusal;
+    }
+    if !is_word(word) {
+        return 7;
+    }
+    if beyond.len() < BEYOND_SIZE {
+        return 15;
+    }
+    put_beyond(against_lines_sound(before, word as i16), beyond);
+    0
+}
+
+#[no_mangle]
+pub extern "C" fn control_chart_check(chart: &[u8]) -> u16
+    ensures { λ r. ⌜ Checks (now (chart .entry)) r ⌝ }
+{
+    let held = held_in(chart);
+    held.number
+}

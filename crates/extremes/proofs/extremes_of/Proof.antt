@@ -1,0 +1,89 @@
+-- `extremes::extremes_of` meets its contract. The loop's invariant, for the least as for the greatest: what is picked of what the words
+-- passed left, and of the words that remain, is what is picked of all.
+use mathlib.Core.Path.{_≡_}
+use Prim.Native.Nat.{_-_, _≤_}
+use native.Mathlib.Omega.{arith}
+use borrow.Author.Needs.{needs, sfits-of}
+use denote.Ref.{now}
+use lib.ListN.{length, drop}
+use mir.Facts.{toZ-ofZ}
+use Rattle.extremes.specs.Extremes.{lesser, greater, pickedFrom, leastOf, greatestOf}
+use Rattle.extremes.proofs.Picking.{picked-empty, picked-first, picked-turn, picked-end}
+use Rattle.extremes.proofs.extremes_of.Statement.{statement}
+use Rattle.extremes.proofs.extremes_of.Tie as tie
+
+abbrev Inv-loop : tie.InvT-loop
+Inv-loop words first e₀ i₀ e i =
+    (pickedFrom lesser (e .least) (drop i words) ≡ leastOf words) × (pickedFrom greater (e .greatest) (drop i words) ≡ greatestOf words)
+
+abbrev μ-loop : tie.MeasureT-loop
+μ-loop words first e₀ i₀ e i = length words - i
+
+returns : tie.Need-returns Inv-loop μ-loop
+unfolding leastOf greatestOf
+returns c =
+    let words = now (c .before .args .words) in
+    record { least = picked-empty lesser words (c .if1 .taken); greatest = picked-empty greater words (c .if1 .taken) }
+
+shared-slice-copy-out-first : tie.Need-shared-slice-copy-out-first Inv-loop μ-loop
+shared-slice-copy-out-first c = search needs
+
+loop-holds : tie.Need-loop-holds Inv-loop μ-loop
+unfolding leastOf greatestOf
+loop-holds c =
+    let words = now (c .before .before .args .words) in
+    let some : 1 ≤ length words = omega arith in
+    let first = toZ-ofZ (sfits-of (c .first .given)) in
+    (picked-first lesser words some first, picked-first greater words some first)
+
+mul-with-word : tie.Need-mul-with-word Inv-loop μ-loop
+mul-with-word c = search needs
+
+shared-slice-copy-out-with-word : tie.Need-shared-slice-copy-out-with-word Inv-loop μ-loop
+shared-slice-copy-out-with-word c = search needs
+
+with-word-requires : tie.Need-with-word-requires Inv-loop μ-loop
+with-word-requires c κs = search needs
+
+add-i : tie.Need-add-i Inv-loop μ-loop
+add-i c = search needs
+
+loop-less : tie.Need-loop-less Inv-loop μ-loop
+loop-less c = omega arith
+
+loop-again : tie.Need-loop-again Inv-loop μ-loop
+loop-again c =
+    let inside = c .before .before in
+    let l = inside .before in
+    let words = now (l .before .before .before .args .words) in
+    let word = toZ-ofZ (sfits-of (c .before .with-word-arg .given)) in
+    let is = c .with-word .ensures in (
+      picked-turn lesser words (l .loop .i) (l .loop .e .least) (l .loop .inv .0) (inside .loop-test .taken) word (is .least),
+      picked-turn greater words (l .loop .i) (l .loop .e .greatest) (l .loop .inv .1) (inside .loop-test .taken) word (is .greatest),
+    )
+
+returns-2 : tie.Need-returns-2 Inv-loop μ-loop
+returns-2 c =
+    let l = c .before .loop in
+    let words = now (c .before .before .before .before .args .words) in
+    record {
+      least = picked-end lesser words (l .i) (l .e .least) (l .inv .0) (c .loop-test .left);
+      greatest = picked-end greater words (l .i) (l .e .greatest) (l .inv .1) (c .loop-test .left);
+    }
+
+pub extremes-of-spec : {M : Type 1} → statement M
+extremes-of-spec =
+    tie.close
+    (tie.spec
+    Inv-loop
+    μ-loop
+    returns
+    shared-slice-copy-out-first
+    loop-holds
+    mul-with-word
+    shared-slice-copy-out-with-word
+    with-word-requires
+    add-i
+    loop-less
+    loop-again
+    returns-2)

@@ -1,0 +1,56 @@
+// The least and the greatest of some words.
+//
+// They decide a test that a word passes where it lies between two that pass, as the range of a kind and the control limits are: all words
+// pass exactly if these two do. So many words take two tests, and a loop that only compares.
+ghost use mathlib.Core.Path.{_≡_};
+ghost use Rattle.extremes.specs.Extremes as specs;
+
+pub struct Extremes {
+    pub least: i16,
+    pub greatest: i16,
+}
+
+// Of no word both are 0. No word ends the loop early, so that it can be compiled to take many words at a time.
+pub fn extremes_of(words: &[i16]) -> Extremes
+    ensures { λ r. ⌜ specs.AreExtremes (now (words .entry)) r ⌝ }
+{
+    if words.len() == 0 {
+        return Extremes {
+            least: 0,
+            greatest: 0,
+        };
+    }
+    let first = words[0];
+    let mut e = Extremes {
+        least: first,
+        greatest: first,
+    };
+    let mut i: usize = 1;
+    while i < words.len() {
+        e = with_word(e, words[i]);
+        i += 1;
+    }
+    e
+}
+
+// The extremes of one word more.
+fn with_word(e: Extremes, w: i16) -> Extremes
+    ensures { λ r. ⌜ specs.AreWithWord e w r ⌝ }
+{
+    Extremes {
+        least: lesser(e.least, w),
+        greatest: greater(e.greatest, w),
+    }
+}
+
+fn lesser(a: i16, b: i16) -> i16
+    ensures { λ r. ⌜ r ≡ specs.lesser a b ⌝ }
+{
+    if a <= b { a } else { b }
+}
+
+fn greater(a: i16, b: i16) -> i16
+    ensures { λ r. ⌜ r ≡ specs.greater a b ⌝ }
+{
+    if a <= b { b } else { a }
+}

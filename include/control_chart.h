@@ -1,0 +1,132 @@
+/* Control charts for laboratories: the C interface.
+ *
+ * Results of duplicate, check and spike samples become words; a chart is built from 15 to 32 words and judges every further one. The
+ * functions are proved, in Rattle, to answer what the paper "Control charts for duplicate, check and spike results" fixes, on every input.
+ *
+ * THE CHART is always in its stored form, in a buffer that the caller lends. The form is bytes, the same on every machine: keep them in a
+ * file or a database as they are. A buffer of CONTROL_CHART_FORM_MOST bytes has room for every chart. `size` is the number of bytes of
+ * the form, which stands at the front of the buffer; `room` is the number of bytes of the whole buffer.
+ *
+ * A WORD is a percentage in hundredths: 10000 is 100 %. READINGS are whole numbers in the method's smallest digit: 0.123 mg/L at three
+ * decimals is 123. A call takes a kind and three of them:
+ *
+ *     kind 1, duplicate   a, b: the two results; c is ignored              word = 20000 * |a - b| / (a + b), in 0..20000
+ *     kind 2, check       a: found; b: made up; c is ignored               word = 10000 * a / b, in -20000..20000
+ *     kind 3, spike       a: spiked sample; b: unspiked sample; c: added   word = 10000 * (a - b) / c, in -20000..20000
+ *
+ * THE ANSWER of every function is 0, or the number of a refusal:
+ *
+ *      1   the kind is not 1, 2 or 3 (a word alone, and building)
+ *      2   not 15 to 32 words
+ *      3   a word out of the kind's range
+ *      4   a reading of another kind than the chart
+ *      5   a reading outside 0..1,000,000,000
+ *      6   the divisor is 0: both duplicates are 0, or nothing was made up or added
+ *      7   the word is out of range
+ *      8   a reanalysis or a correction is due
+ *      9   the series has 366 words: renew the chart
+ *     10   no reanalysis is due
+ *     11   no correction is due
+ *     12   base and series have fewer than 15 words together
+ *     13   the bytes are no stored form (also where *size is more than room)
+ *     14   the chart in the bytes is not sound: it was altered by something else; take the last good copy
+ *     15   a buffer is too short for what goes into it
+ *
+ * Where more than one applies, the first in the order that stands at the function is answered. A refused call changes nothing: every
+ * lent byte and number is as it was.
+ *
+ * POINTERS must not be null, also where the length beside them is 0, and must be aligned for their type. Memory that is lent for writing
+ * must not overlap any other that is lent to the same call. The functions keep no state and use no memory but what is lent and some
+ * kilobytes of stack, so calls on different buffers may run at the same time.
+ */
+#ifndef CONTROL_CHART_H
+#define CONTROL_CHART_H
+
+#include <stddef.h>
+#include <stdint.h>
+
+#ifdef __cplusplus
+extern "C" {
+#endif
+
+/* The bytes of the longest stored form: 32 words in the base and 366 in the series. */
+#define CONTROL_CHART_FORM_MOST 814
+
+/* The doubles of a kind 2 or 3 chart; a kind 1 chart has three. */
+#define CONTROL_CHART_LINES_MOST 5
+
+/* The bytes that control_chart_against_lines answers. */
+#define CONTROL_CHART_BEYOND 4
+
+/* The word of a reading, to collect a base: *word.
+ * Refuses 1, 5, 6, 7. */
+uint16_t control_chart_word(uint32_t kind, int64_t a, int64_t b, int64_t c, int16_t *word);
+
+/* A new chart from `count` words of one kind. Words beyond the control limits, the mean +- 3 S, are removed round by round. The form goes
+ * to the front of `chart`; *size: its bytes; *rounds: the rounds of rejection, the last of which removes nothing; *removed: the words
+ * that they removed. What `chart` and *size held before is not looked at.
+ * Refuses 1, 2, 3, 15. */
+uint16_t control_chart_build(uint32_t kind, const int16_t *words, size_t count,
+                             uint8_t *chart, size_t room, size_t *size,
+                             size_t *rounds, size_t *removed);
+
+/* Forms the word of a reading, judges it, and adds it to the series, which makes the form two bytes longer. *word, and *verdict:
+ *     0   none of those below: the chart stays free
+ *     1   beyond a control limit, the mean +- 3 S: hold the batch, a reanalysis is due
+ *     2   this word and the one before are beyond the warning limit, the mean +- 2 S, on the same side: a reanalysis is due
+ *     3   the last seven words rise strictly, or fall strictly: a reanalysis is due
+ *     4   kinds 2 and 3: the last seven words are all above the mean, or all below it: a correction is due
+ * Refuses 13, 14, 8, 9, 4, 5, 6, 7, 15. */
+uint16_t control_chart_post(uint8_t *chart, size_t room, size_t *size,
+                            uint32_t kind, int64_t a, int64_t b, int64_t c,
+                            int16_t *word, uint16_t *verdict);
+
+/* The sample, analysed again. *word, and *passed: 1 where the reanalysis passes; its word then takes the place of the last one and the
+ * chart is free. 0 where it fails; the series stays and a correction is due.
+ * Refuses 13, 14, 10, 4, 5, 6, 7. */
+uint16_t control_chart_reanalyse(uint8_t *chart, size_t room, size_t *size,
+                                 uint32_t kind, int64_t a, int64_t b, int64_t c,
+                                 int16_t *word, uint8_t *passed);
+
+/* The method was put right: a reanalysis is due.
+ * Refuses 13, 14, 11. */
+uint16_t control_chart_correct(uint8_t *chart, size_t room, size_t *size);
+
+/* A new base from the last 15 words of base and series, by rejection as in building; the series is empty then. *size, *rounds and *removed
+ * as in building.
+ * Refuses 13, 14, 8, 12. */
+uint16_t control_chart_renew(uint8_t *chart, size_t room, size_t *size,
+                             size_t *rounds, size_t *removed);
+
+/* The lines for a plotter, in hundredths of a percent as words are, each a whole number of 256ths. A kind 1 chart has three: mean, upper
+ * warning limit, upper control limit (its lower line is always 0). The others have five: mean, lower warning, upper warning, lower
+ * control, upper control limit. They go to the front of `lines`, which has room for `room` doubles; *count: how many.
+ * Refuses 13, 14, 15. */
+uint16_t control_chart_lines(const uint8_t *chart, size_t size,
+                             double *lines, size_t room, size_t *count);
+
+/* Whether a word is beyond each limit, 1 or 0: beyond[0] the lower warning, beyond[1] the upper warning, beyond[2] the lower control,
+ * beyond[3] the upper control limit. A kind 1 chart has no lower limits. A word on a limit is not beyond it. The answer is the same as by
+ * comparing the word with the doubles of control_chart_lines, and as by the exact limits.
+ * Refuses 13, 14, 7 (no number from -32768 to 32767, so no word), 15 (room below 4). */
+uint16_t control_chart_against_lines(const uint8_t *chart, size_t size, int32_t word,
+                                     uint8_t *beyond, size_t room);
+
+/* Whether the bytes are the stored form of a sound chart.
+ * Refuses 13, 14. */
+uint16_t control_chart_check(const uint8_t *chart, size_t size);
+
+/* THE STORED FORM, for whoever wants to read a chart. Every number has two bytes, the lower first; words are in two's complement. The
+ * lengths count the bytes after themselves.
+ *
+ *     bytes 0..9     8; 1; kind; status (0 free, 1 a reanalysis is due, 2 a correction is due); open verdict (0 when free)
+ *     bytes 10..13   2 + 2 n; 2
+ *     then           the n words of the base, 10 to 32
+ *     then           2 + 2 m; 3; the m words of the series, 0 to 366
+ */
+
+#ifdef __cplusplus
+}
+#endif
+
+#endif
