@@ -1,11 +1,8 @@
-/* Control charts for laboratories: the C interface.
+/* Control charts for laboratories: the C interface, for x86-64 Linux.
  *
  * Results of duplicate, check and spike samples become words; a chart is built from 15 to 32 words and judges every further one. The
- * functions are proved, in Rattle, to answer what the paper "Control charts for duplicate, check and spike results" fixes, on every input.
- *
- * THE CHART is always in its stored form, in a buffer that the caller lends. The form is bytes, the same on every machine: keep them in a
- * file or a database as they are. A buffer of CONTROL_CHART_FORM_MOST bytes has room for every chart. `size` is the number of bytes of
- * the form, which stands at the front of the buffer; `room` is the number of bytes of the whole buffer.
+ * functions are proved, in Rattle, to answer what the paper "Control charts for duplicate, check and spike results" fixes, on every
+ * input. Nothing but tests checks this header against them.
  *
  * A WORD is a percentage in hundredths: 10000 is 100 %. READINGS are whole numbers in the method's smallest digit: 0.123 mg/L at three
  * decimals is 123. A call takes a kind and three of them:
@@ -13,6 +10,17 @@
  *     kind 1, duplicate   a, b: the two results; c is ignored              word = 20000 * |a - b| / (a + b), in 0..20000
  *     kind 2, check       a: found; b: made up; c is ignored               word = 10000 * a / b, in -20000..20000
  *     kind 3, spike       a: spiked sample; b: unspiked sample; c: added   word = 10000 * (a - b) / c, in -20000..20000
+ *
+ * each to the nearest whole number, halves away from zero.
+ *
+ * THE CHART is its base, the words that its limits come from, and its series, the words posted since. It is always in its stored form, in a
+ * buffer that the caller lends. The form is bytes, the same on every machine: keep them in a file or a database as they are. `room` is the
+ * number of bytes of the buffer, and *size that of the form, which stands at its front. Building sets *size; post, reanalyse, correct and
+ * renew take it and set it; lines, against_lines and check take the form's size itself. A buffer of CONTROL_CHART_FORM_MOST bytes has room for
+ * every chart. Bytes behind the form stay as they are: only the first *size bytes are the chart.
+ *
+ * THE LIMITS come from the words of the base: their mean and their standard deviation S, with the divisor n - 1. Control limits are the
+ * mean + 3 S and the mean - 3 S, warning limits the mean + 2 S and the mean - 2 S; a kind 1 chart has only the upper ones.
  *
  * THE ANSWER of every function is 0, or the number of a refusal:
  *
@@ -35,9 +43,9 @@
  * Where more than one applies, the first in the order that stands at the function is answered. A refused call changes nothing: every
  * lent byte and number is as it was.
  *
- * POINTERS must not be null, also where the length beside them is 0, and must be aligned for their type. Memory that is lent for writing
- * must not overlap any other that is lent to the same call. The functions keep no state and use no memory but what is lent and some
- * kilobytes of stack, so calls on different buffers may run at the same time.
+ * POINTERS must not be null, also where the length beside them is 0, must be aligned for their type, and must lead to as many elements as
+ * that length says. Memory that is lent for writing must not overlap any other that is lent to the same call. The functions keep nothing
+ * between calls, allocate nothing and use some kilobytes of stack; calls may run at the same time if none writes what another is lent.
  */
 #ifndef CONTROL_CHART_H
 #define CONTROL_CHART_H
@@ -62,26 +70,27 @@ extern "C" {
  * Refuses 1, 5, 6, 7. */
 uint16_t control_chart_word(uint32_t kind, int64_t a, int64_t b, int64_t c, int16_t *word);
 
-/* A new chart from `count` words of one kind. Words beyond the control limits, the mean +- 3 S, are removed round by round. The form goes
- * to the front of `chart`; *size: its bytes; *rounds: the rounds of rejection, the last of which removes nothing; *removed: the words
- * that they removed. What `chart` and *size held before is not looked at.
+/* A new chart from `count` words of one kind. Words beyond the control limits are removed, round by round with the limits of the rest. The
+ * form goes to the front of `chart`; *size: its bytes; *rounds: the rounds, the last of which removes nothing; *removed: how many words they
+ * removed. What `chart` and *size held before is not looked at.
  * Refuses 1, 2, 3, 15. */
 uint16_t control_chart_build(uint32_t kind, const int16_t *words, size_t count,
                              uint8_t *chart, size_t room, size_t *size,
                              size_t *rounds, size_t *removed);
 
-/* Forms the word of a reading, judges it, and adds it to the series, which makes the form two bytes longer. *word, and *verdict:
- *     0   none of those below: the chart stays free
- *     1   beyond a control limit, the mean +- 3 S: hold the batch, a reanalysis is due
- *     2   this word and the one before are beyond the warning limit, the mean +- 2 S, on the same side: a reanalysis is due
- *     3   the last seven words rise strictly, or fall strictly: a reanalysis is due
- *     4   kinds 2 and 3: the last seven words are all above the mean, or all below it: a correction is due
+/* Forms the word of a reading, judges it, and adds it to the series, which makes the form two bytes longer. *word, and *verdict, the lowest
+ * that applies:
+ *     1   beyond a control limit: a reanalysis is due
+ *     2   this word and the one before it in the series are beyond the warning limit on the same side: a reanalysis is due
+ *     3   the last seven words of the series rise strictly, or fall strictly: a reanalysis is due
+ *     4   kinds 2 and 3: the last seven words of the series are all above the mean, or all below it: a correction is due
+ *     0   none of these: the chart stays free
  * Refuses 13, 14, 8, 9, 4, 5, 6, 7, 15. */
 uint16_t control_chart_post(uint8_t *chart, size_t room, size_t *size,
                             uint32_t kind, int64_t a, int64_t b, int64_t c,
                             int16_t *word, uint16_t *verdict);
 
-/* The sample, analysed again. *word, and *passed: 1 where the reanalysis passes; its word then takes the place of the last one and the
+/* The sample, analysed again. *word, and *passed: 1 where the reanalysis passes; its word then takes the place of the series' last and the
  * chart is free. 0 where it fails; the series stays and a correction is due.
  * Refuses 13, 14, 10, 4, 5, 6, 7. */
 uint16_t control_chart_reanalyse(uint8_t *chart, size_t room, size_t *size,
@@ -92,23 +101,25 @@ uint16_t control_chart_reanalyse(uint8_t *chart, size_t room, size_t *size,
  * Refuses 13, 14, 11. */
 uint16_t control_chart_correct(uint8_t *chart, size_t room, size_t *size);
 
-/* A new base from the last 15 words of base and series, by rejection as in building; the series is empty then. *size, *rounds and *removed
- * as in building.
+/* A new base from the last 15 words of the base followed by the series, by rejection as in building; the series is empty then, so the form
+ * gets shorter or stays as long. *size, *rounds and *removed as in building.
  * Refuses 13, 14, 8, 12. */
 uint16_t control_chart_renew(uint8_t *chart, size_t room, size_t *size,
                              size_t *rounds, size_t *removed);
 
-/* The lines for a plotter, in hundredths of a percent as words are, each a whole number of 256ths. A kind 1 chart has three: mean, upper
- * warning limit, upper control limit (its lower line is always 0). The others have five: mean, lower warning, upper warning, lower
- * control, upper control limit. They go to the front of `lines`, which has room for `room` doubles; *count: how many.
+/* The lines for a plotter, in hundredths of a percent as words are, each a whole number of 256ths: an upper limit rounded down, a lower one
+ * up, the mean down. A kind 1 chart has three: mean, upper warning limit, upper control limit (its lower line is always 0). The others have
+ * five: mean, lower warning, upper warning, lower control, upper control limit. They go to the front of `lines`, which has room for `room`
+ * doubles; *count: how many. Doubles behind them stay as they are.
  * Refuses 13, 14, 15. */
 uint16_t control_chart_lines(const uint8_t *chart, size_t size,
                              double *lines, size_t room, size_t *count);
 
 /* Whether a word is beyond each limit, 1 or 0: beyond[0] the lower warning, beyond[1] the upper warning, beyond[2] the lower control,
- * beyond[3] the upper control limit. A kind 1 chart has no lower limits. A word on a limit is not beyond it. The answer is the same as by
- * comparing the word with the doubles of control_chart_lines, and as by the exact limits.
- * Refuses 13, 14, 7 (no number from -32768 to 32767, so no word), 15 (room below 4). */
+ * beyond[3] the upper control limit; of a kind 1 chart beyond[0] and beyond[2] are 0. A word on a limit is not beyond it. The answer is the
+ * same as by comparing the word with the doubles of control_chart_lines, and as by the exact limits. Any word from -32768 to 32767 is
+ * compared, also one out of the kind's range. Bytes behind the four stay as they are.
+ * Refuses 13, 14, 7 (a number outside -32768..32767), 15 (room below 4). */
 uint16_t control_chart_against_lines(const uint8_t *chart, size_t size, int32_t word,
                                      uint8_t *beyond, size_t room);
 
