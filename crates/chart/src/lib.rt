@@ -7,7 +7,7 @@
 // 9 (366 words in the series), 4 (a reading of another kind), 5, 6, 7; reanalyse 10 (status not 1), 4, 5, 6, 7; correct 11 (status not 2);
 // renew 8, 12 (base and series below 15). A refused call gives back the very chart that came.
 mod rejection;
-mod soundness;
+pub mod soundness;
 
 use judging::reanalysis::passes;
 use judging::verdict::status_for;

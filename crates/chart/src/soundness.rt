@@ -7,7 +7,7 @@ use limits::limits_of;
 use words::all_in_range;
 ghost use mathlib.Core.Path.{_≡_};
 ghost use Prim.Native.Nat.{_≤_};
-ghost use lib.ListN.{length, take};
+ghost use lib.ListN.{length};
 ghost use Rattle.guide.specs.Sizes.{baseMost, seriesMost};
 ghost use Rattle.guide.specs.Soundness.{areCounts, wordsSound, sound};
 ghost use Rattle.guide.specs.State.{state};
@@ -21,23 +21,7 @@ impl Chart {
         if !places_sound(self) {
             return false;
         }
-        self.state_sound()
-    }
-
-    // The state that the chart stands for is sound: all but its unused places, which hold 0 in a chart that was just made of words.
-    pub fn state_sound(self) -> bool
-        requires { ⌜ (self .«base_len» ≤ baseMost) × (self .«series_len» ≤ seriesMost) ⌝ }
-        ensures { λ r. ⌜ r ≡ sound (stateOf self) ⌝ }
-    {
-        is_sound(
-            self.kind,
-            &self.base,
-            self.base_len,
-            &self.series,
-            self.series_len,
-            self.status,
-            self.open_verdict,
-        )
+        state_sound(self)
     }
 }
 
@@ -66,22 +50,23 @@ fn zero_from(places: &[i16], n: usize) -> bool
     true
 }
 
-// The state whose base is the first n of some places and whose series the first m of others is sound. The arrays are lent whole: a part
-// of a struct's array would be a copy.
-fn is_sound<'a>(
-    kind: u16,
-    base_places: &'a [i16],
-    n: usize,
-    series_places: &'a [i16],
-    m: usize,
-    status: u16,
-    open_verdict: u16,
-) -> bool
-    requires { ⌜ (n ≤ baseMost) × ((n ≤ length (now «base_places»)) × (m ≤ length (now «series_places»))) ⌝ }
-    ensures { λ r. ⌜ r ≡ sound (state kind (take n (now («base_places» .entry))) (take m (now («series_places» .entry))) status «open_verdict») ⌝ }
+// The state that the chart stands for is sound.
+fn state_sound(c: Chart) -> bool
+    requires { ⌜ (c .«base_len» ≤ baseMost) × (c .«series_len» ≤ seriesMost) ⌝ }
+    ensures { λ r. ⌜ r ≡ sound (stateOf c) ⌝ }
 {
-    let base = &base_places[..n];
-    let series = &series_places[..m];
+    let n = c.base_len;
+    let m = c.series_len;
+    let base = c.base;
+    let series = c.series;
+    is_sound(c.kind, &base[..n], &series[..m], c.status, c.open_verdict)
+}
+
+// The state with these parts is sound. Reading asks this of the words before they stand in a chart, so that no chart is copied for it.
+pub fn is_sound(kind: u16, base: &[i16], series: &[i16], status: u16, open_verdict: u16) -> bool
+    requires { ⌜ length (now base) ≤ baseMost ⌝ }
+    ensures { λ r. ⌜ r ≡ sound (state kind (now (base .entry)) (now (series .entry)) status «open_verdict») ⌝ }
+{
     let l = limits_of(kind, base);
     let limits = limits_hold(l, base, series, status)
         & status_fits(l, series, status, open_verdict);

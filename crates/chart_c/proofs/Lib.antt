@@ -5,3 +5,4 @@ pub mod Held
 pub mod Kept
 pub mod Building
 pub mod Drawn
+pub mod Room

@@ -1,7 +1,9 @@
 -- The lines that limits give, and those of a chart. Of a sound chart the sums of its base are such that lines can be worked out from them
--- (`has-lines`), and a word is beyond a line exactly if it is beyond the exact limit (`lines-compared`). One that is not sound is declined.
+-- (`has-lines`), and a word is beyond a line exactly if it is beyond the exact limit (`lines-compared`), with which a word can be compared
+-- as well (`limits-compared`). One that is not sound is declined.
 use mathlib.Core.Path.{_≡_, ap, _∙_}
 use mathlib.Core.Bool.{true, false}
+use Prim.Native.Nat.{ℕ, _*_}
 use native.Mathlib.Omega.{arith}
 use lib.ListN.{length}
 use lib.IntN.{ℤ, natAbs}
@@ -14,7 +16,8 @@ use Rattle.guide.specs.Limits as limits
 use Rattle.guide.specs.Limits.{sumsOf, limitsOf, sumOfSquares, controlMultiple, warningMultiple}
 use Rattle.guide.specs.State.{limitsFor}
 use Rattle.guide.specs.Double.{doubleOf}
-use Rattle.guide.specs.Lines.{upperLine, lowerLine, meanLine}
+use Rattle.guide.specs.Sizes.{lineParts}
+use Rattle.guide.specs.Lines.{greatestDeviation, upperLine, meanLine}
 use Rattle.guide.specs.ChartLines as guide
 use Rattle.guide.specs.ChartLines.{linesGiven, refused, linesOf, beyondEach}
 use Rattle.guide.proofs.Held.{word-small}
@@ -22,30 +25,42 @@ use Rattle.guide.proofs.Limits.{v-natural}
 use Rattle.guide.proofs.Lines.{judged-by-lines, in-range-squares}
 use Rattle.guide.proofs.Soundness.{sound-facts}
 use Rattle.limits.specs.declared.Limits.{Limits}
-use Rattle.limits.specs.Sums.{sumsSay, limitsSay, AreLimits}
+use Rattle.limits.specs.declared.BeyondLimits.{BeyondLimits}
+use Rattle.limits.specs.Sums.{sumsSay, limitsSay, IsBeyond}
 use Rattle.chart.specs.declared.Chart.{Chart}
-use Rattle.chart.specs.Chart.{stateOf}
+use Rattle.chart.specs.Chart.{stateOf, LimitsFor}
 use Rattle.chart.specs.Soundness.{soundChart}
 use Rattle.chart.proofs.SoundCharts.{sound-chart-facts}
 use Rattle.lines.specs.declared.Lines.{Lines}
 use Rattle.lines.specs.declared.BeyondEach.{BeyondEach}
 use Rattle.lines.specs.declared.Lines.the-variants.{Duplicate, TwoSided}
 use Rattle.lines.specs.Lines.{linesSay, beyondSays, compared, declined, answerToLines, answerToAgainst, floatBeyond}
-use Rattle.lines.specs.Lines.{HasLines}
+use Rattle.lines.specs.Lines.{upperLineBy, lowerLineBy, HasLines}
+use Rattle.lines.proofs.LineParts.{upper-by, lower-by}
 use Rattle.lines.proofs.Comparing.{float-beyond}
 
 -- ---- the lines that limits give, line by line
 
-module _ (l : Limits) (mean upperWarning upperControl : Float)
+-- by the deviations at the two multiples
+module _ (l : Limits) (warning control : ℕ)
+    (w : warning ≡ greatestDeviation (lineParts * warningMultiple) (sumsSay (l .sums)))
+    (c : control ≡ greatestDeviation (lineParts * controlMultiple) (sumsSay (l .sums)))
+    (mean upperWarning upperControl : Float)
     (m : mean ≡ doubleOf (meanLine (sumsSay (l .sums))))
-    (uw : upperWarning ≡ doubleOf (upperLine warningMultiple (sumsSay (l .sums))))
-    (uc : upperControl ≡ doubleOf (upperLine controlMultiple (sumsSay (l .sums)))) where
+    (uw : upperWarning ≡ doubleOf (upperLineBy warning (sumsSay (l .sums))))
+    (uc : upperControl ≡ doubleOf (upperLineBy control (sumsSay (l .sums)))) where
+  upper-warning : upperWarning ≡ doubleOf (upperLine warningMultiple (sumsSay (l .sums)))
+  upper-warning = uw ∙ ap doubleOf (upper-by warningMultiple warning (sumsSay (l .sums)) w)
+
+  upper-control : upperControl ≡ doubleOf (upperLine controlMultiple (sumsSay (l .sums)))
+  upper-control = uc ∙ ap doubleOf (upper-by controlMultiple control (sumsSay (l .sums)) c)
+
   pub duplicate-lines : hasLower (l .kind) ≡ false → linesSay (Duplicate mean upperWarning upperControl) ≡ linesOf (limitsSay l)
   unfolding linesSay linesOf
-  duplicate-lines t = rw t (λ i. guide.duplicate (m i) (uw i) (uc i))
+  duplicate-lines t = rw t (λ i. guide.duplicate (m i) (upper-warning i) (upper-control i))
 
-  pub two-sided-lines : (lowerWarning lowerControl : Float) → lowerWarning ≡ doubleOf (lowerLine warningMultiple (sumsSay (l .sums)))
-      → lowerControl ≡ doubleOf (lowerLine controlMultiple (sumsSay (l .sums))) → hasLower (l .kind) ≡ true
+  pub two-sided-lines : (lowerWarning lowerControl : Float) → lowerWarning ≡ doubleOf (lowerLineBy warning (sumsSay (l .sums)))
+      → lowerControl ≡ doubleOf (lowerLineBy control (sumsSay (l .sums))) → hasLower (l .kind) ≡ true
       → linesSay (TwoSided (record {
         mean = mean;
         «lower_warning» = lowerWarning;
@@ -54,14 +69,38 @@ module _ (l : Limits) (mean upperWarning upperControl : Float)
         «upper_control» = upperControl;
       })) ≡ linesOf (limitsSay l)
   unfolding linesSay linesOf
-  two-sided-lines lowerWarning lowerControl lw lc t = rw t (λ i. guide.twoSided (m i) (lw i) (uw i) (lc i) (uc i))
+  two-sided-lines lowerWarning lowerControl lw lc t =
+      let lower-warning = lw ∙ ap doubleOf (lower-by warningMultiple warning (sumsSay (l .sums)) w) in
+      let lower-control = lc ∙ ap doubleOf (lower-by controlMultiple control (sumsSay (l .sums)) c) in
+      rw t (λ i. guide.twoSided (m i) (lower-warning i) (upper-warning i) (lower-control i) (upper-control i))
+
+-- ---- a word against limits that the program holds
+
+pub limits-compared : {limits : limits.Limits} (l : Limits) (w : ℤ) → SFits w16 w → (warning control : BeyondLimits) → limitsSay l ≡ limits
+    → IsBeyond warningMultiple (limitsSay l) (toZ w16 (ofZ w16 w)) warning
+    → IsBeyond controlMultiple (limitsSay l) (toZ w16 (ofZ w16 w)) control
+    → beyondSays (record {
+      «lower_warning» = warning .lower;
+      «upper_warning» = warning .upper;
+      «lower_control» = control .lower;
+      «upper_control» = control .upper;
+    }) ≡ beyondEach limits w
+unfolding beyondSays beyondEach
+limits-compared l w fit warning control same at-warning at-control =
+    (λ i. record {
+      lowerWarning = at-warning .lower i;
+      upperWarning = at-warning .upper i;
+      lowerControl = at-control .lower i;
+      upperControl = at-control .upper i;
+    })
+    ∙ (λ i. beyondEach (same i) (toZ-ofZ fit i))
 
 -- ---- a sound chart
 
 module _ (c : Chart) (t : soundChart c ≡ true) where
   -- lines can be worked out from the sums of its base
-  pub has-lines : (l : Limits) → AreLimits (c .kind) (stateOf c .base) l → HasLines (l .sums)
-  unfolding stateOf limitsOf sumsOf
+  pub has-lines : (l : Limits) → LimitsFor (stateOf c) l → HasLines (l .sums)
+  unfolding limitsFor limitsOf sumsOf
   has-lines l are =
       let s = stateOf c in
       let facts = sound-facts s (sound-chart-facts c t .state) in
@@ -72,12 +111,6 @@ module _ (c : Chart) (t : soundChart c ≡ true) where
         two = omega (arith, facts .base-least);
         squares = omega (arith, in-range-squares (s .kind) (s .base) (facts .base-in-range));
       }
-
-  -- the lines that the limits of its base give are its lines
-  pub lines-are : (lines : Lines) (l : Limits) → AreLimits (c .kind) (stateOf c .base) l → linesSay lines ≡ linesOf (limitsSay l)
-      → linesSay lines ≡ linesOf (limitsFor (stateOf c))
-  unfolding limitsFor stateOf
-  lines-are lines l are e = e ∙ ap linesOf (are .same)
 
   pub lines-given : (lines : Lines) → linesSay lines ≡ linesOf (limitsFor (stateOf c)) → linesGiven (linesSay lines) ≡ answerToLines c
   unfolding answerToLines

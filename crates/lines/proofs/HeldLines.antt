@@ -30,10 +30,10 @@ use Rattle.guide.proofs.Soundness.{sound-facts}
 use Rattle.guide.proofs.Double.{parts-of-double}
 use Rattle.limits.specs.declared.Sums.{Sums}
 use Rattle.limits.specs.declared.Limits.{Limits}
-use Rattle.limits.specs.Sums.{sumsSay, Bounded, AreLimits}
+use Rattle.limits.specs.Sums.{sumsSay, Bounded}
 use Rattle.limits.proofs.Spread.{v-is}
 use Rattle.chart.specs.declared.Chart.{Chart}
-use Rattle.chart.specs.Chart.{stateOf}
+use Rattle.chart.specs.Chart.{stateOf, LimitsFor}
 use Rattle.chart.specs.Soundness.{soundChart}
 use Rattle.chart.proofs.SoundCharts.{sound-chart-facts}
 use Rattle.lines.specs.Lines.{HasLines, partsHeld, IsHeldLine, AreSmallLines, AreHeldLines}
@@ -142,8 +142,8 @@ bounded-sums kind ws few range =
     }
 
 module _ (c : Chart) (t : soundChart c ≡ true) where
-  base-limits : AreLimits (c .kind) (stateOf c .base) (record { kind = c .kind; sums = baseSums (stateOf c .base) })
-  unfolding limitsOf stateOf
+  base-limits : LimitsFor (stateOf c) (record { kind = c .kind; sums = baseSums (stateOf c .base) })
+  unfolding limitsFor limitsOf stateOf
   base-limits =
       let s = stateOf c in
       let facts = sound-facts s (sound-chart-facts c t .state) in

@@ -1,5 +1,5 @@
 mod Quotients
-mod Bisection
+mod Newton
 mod Deviations
 mod LineParts
 mod Doubles

@@ -7,13 +7,14 @@ use mir.Syntax.{w64}
 use mir.Val.{toZ, ofZ}
 use mir.Facts.{toZ-ofZ, toZ-pos}
 use Rattle.guide.specs.Sizes.{lineParts}
+use Rattle.guide.specs.Limits as limits
 use Rattle.guide.specs.Lines.{quotientDown, quotientUp, greatestDeviation, upperLine, lowerLine, meanLine}
 use Rattle.guide.proofs.Integers.{magnitude-plus, magnitude-negated, magnitude-times}
 use Rattle.guide.proofs.Held.{small-fits, Held, held}
 use Rattle.limits.specs.declared.Sums.{Sums}
 use Rattle.limits.specs.Sums.{sumsSay, Bounded}
 use Rattle.limits.proofs.Spread.{sum-small, sum-fits}
-use Rattle.lines.specs.Lines.{IsParts}
+use Rattle.lines.specs.Lines.{upperLineBy, lowerLineBy, IsParts}
 use Rattle.lines.proofs.Quotients.{down-small, up-small}
 
 -- 256·T
@@ -55,17 +56,26 @@ module _ (s : Sums) (b : Bounded s) (t : ℤ) (e : t ≡ pos lineParts *ℤ s .t
     minus-held = held (rw (held-sum, toZ-pos w64 {n = d} (omega arith))) (small-fits (omega (arith, minus-small)))
 
     -- .. divided by n
-    module _ (m : ℕ) (is : d ≡ greatestDeviation (lineParts * m) (sumsSay s)) (r : ℤ) where
-      pub upper-parts : r ≡ quotientDown (toZ w64 (ofZ w64 (toZ w64 (ofZ w64 t) +ℤ toZ w64 d))) (s .n)
-          → IsParts (upperLine m (sumsSay s)) (toZ w64 (ofZ w64 r))
-      unfolding upperLine
-      upper-parts f =
-          let z = pos lineParts *ℤ s .t +ℤ pos d in
-          rw (← is) (are-parts (quotientDown z (s .n)) r (rw (plus-held .is) at f) (omega (arith, down-small z (s .n), plus-small)))
+    pub upper-parts : (r : ℤ) → r ≡ quotientDown (toZ w64 (ofZ w64 (toZ w64 (ofZ w64 t) +ℤ toZ w64 d))) (s .n)
+        → IsParts (upperLineBy d (sumsSay s)) (toZ w64 (ofZ w64 r))
+    unfolding upperLineBy
+    upper-parts r f =
+        let z = pos lineParts *ℤ s .t +ℤ pos d in
+        are-parts (quotientDown z (s .n)) r (rw (plus-held .is) at f) (omega (arith, down-small z (s .n), plus-small))
 
-      pub lower-parts : r ≡ quotientUp (toZ w64 (ofZ w64 (toZ w64 (ofZ w64 t) -ℤ toZ w64 d))) (s .n)
-          → IsParts (lowerLine m (sumsSay s)) (toZ w64 (ofZ w64 r))
-      unfolding lowerLine
-      lower-parts f =
-          let z = pos lineParts *ℤ s .t -ℤ pos d in
-          rw (← is) (are-parts (quotientUp z (s .n)) r (rw (minus-held .is) at f) (omega (arith, up-small z (s .n), minus-small)))
+    pub lower-parts : (r : ℤ) → r ≡ quotientUp (toZ w64 (ofZ w64 (toZ w64 (ofZ w64 t) -ℤ toZ w64 d))) (s .n)
+        → IsParts (lowerLineBy d (sumsSay s)) (toZ w64 (ofZ w64 r))
+    unfolding lowerLineBy
+    lower-parts r f =
+        let z = pos lineParts *ℤ s .t -ℤ pos d in
+        are-parts (quotientUp z (s .n)) r (rw (minus-held .is) at f) (omega (arith, up-small z (s .n), minus-small))
+
+-- by the greatest deviation that is not more than m·S, the line at m
+module _ (m d : ℕ) (s : limits.Sums) (is : d ≡ greatestDeviation (lineParts * m) s) where
+  pub upper-by : upperLineBy d s ≡ upperLine m s
+  unfolding upperLineBy upperLine
+  upper-by = rw is
+
+  pub lower-by : lowerLineBy d s ≡ lowerLine m s
+  unfolding lowerLineBy lowerLine
+  lower-by = rw is

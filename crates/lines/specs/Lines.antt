@@ -3,7 +3,7 @@ use mathlib.Core.Path.{_≡_}
 use mathlib.Core.Bool.{Bool}
 use Prim.Native.Nat.{ℕ, _*_, _≤_, _^_}
 use lib.Dec.{ltb}
-use lib.IntN.{ℤ, pos, natAbs}
+use lib.IntN.{ℤ, pos, natAbs, _+ℤ_, _-ℤ_, _*ℤ_}
 use lib.Ieee.{Float, lt, ofInt, binary64}
 use Rattle.guide.specs.Choice.{choose, require}
 use Rattle.guide.specs.Kind.{wordMost}
@@ -11,7 +11,8 @@ use Rattle.guide.specs.Limits as limits
 use Rattle.guide.specs.Limits.{controlMultiple, warningMultiple}
 use Rattle.guide.specs.State.{limitsFor}
 use Rattle.guide.specs.Double.{doubleOf, partsIn}
-use Rattle.guide.specs.Lines.{upperLine, lowerLine, meanLine}
+use Rattle.guide.specs.Sizes.{lineParts}
+use Rattle.guide.specs.Lines.{quotientDown, quotientUp, upperLine, lowerLine, meanLine}
 use Rattle.guide.specs.ChartLines.{ChartLinesAnswer, linesGiven, refused, linesOf, beyondEach, beyondBy}
 use Rattle.guide.specs.ChartLines as guide
 use Rattle.limits.specs.declared.Sums.{Sums}
@@ -111,6 +112,16 @@ abbrev pub AreHeldLines : limits.Sums → guide.Lines → Type 0
 AreHeldLines s (guide.duplicate mean upperWarning upperControl) = AreHeldDuplicate s mean upperWarning upperControl
 AreHeldLines s (guide.twoSided mean lowerWarning upperWarning lowerControl upperControl) =
     AreHeldTwoSided s mean lowerWarning upperWarning lowerControl upperControl
+
+-- ---- a line by its deviation d from the mean, in 256ths of an n-th
+
+-- the greatest k for which n·k is at most 256·T + d, and the least k for which n·k is at least 256·T − d. Where d is the greatest whole
+-- number for which d / n is not more than (256·m)·S, these are the guide's lines at m (`proofs/LineParts`)
+unfoldable pub upperLineBy : ℕ → limits.Sums → ℤ
+upperLineBy d s = quotientDown (pos lineParts *ℤ s .t +ℤ pos d) (s .n)
+
+unfoldable pub lowerLineBy : ℕ → limits.Sums → ℤ
+lowerLineBy d s = quotientUp (pos lineParts *ℤ s .t -ℤ pos d) (s .n)
 
 -- ---- what the functions within ask and give
 

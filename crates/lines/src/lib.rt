@@ -3,6 +3,10 @@
 // then divided by 256, which a double does exactly.
 //
 // `lines_of` and `against_lines` decline a chart that is not sound, with 14.
+//
+// A word is compared with a chart's lines in two ways that give the same by proof. `against_lines` works the doubles out and compares with
+// these, as a plotter that was given them does: it is the way that shows that the lines judge as the limits do. `against_lines_sound` is
+// for whoever wants the answer only: it compares with the exact limits, and so takes no square root and makes no double.
 mod parts;
 
 use chart::Chart;
@@ -10,8 +14,10 @@ use limits::CONTROL;
 use limits::Limits;
 use limits::Sums;
 use limits::WARNING;
+use limits::beyond;
 use limits::has_lower;
 use limits::limits_of;
+use parts::deviation_parts;
 use parts::lower_parts;
 use parts::mean_parts;
 use parts::upper_parts;
@@ -24,9 +30,10 @@ ghost use Rattle.guide.specs.Lines as guide;
 ghost use Rattle.guide.specs.State.{limitsFor};
 ghost use Rattle.guide.specs.ChartLines.{linesOf, beyondEach};
 ghost use Rattle.limits.specs.Sums.{sumsSay, limitsSay};
-ghost use Rattle.chart.specs.Chart.{stateOf};
+ghost use Rattle.chart.specs.Chart.{stateOf, LimitsFor};
 ghost use Rattle.chart.specs.Soundness.{soundChart};
 ghost use Rattle.lines.specs.Lines.{beyondSays, floatAbove, floatBelow, floatBeyond, partsHeld};
+ghost use Rattle.lines.specs.Lines.{upperLineBy, lowerLineBy};
 ghost use Rattle.lines.specs.Lines.{HasLines, linesSay, linesAnswerSays, againstSays, answerToLines, answerToAgainst};
 
 pub struct TwoSidedLines {
@@ -75,14 +82,14 @@ pub fn lines_of(chart: Chart) -> LinesAnswer
     LinesAnswer::Done(lines_of_sound(chart))
 }
 
-// A word against the lines of a chart: the same answer as by the exact limits.
+// A word against the lines of a chart, by their doubles: the same answer as by the exact limits.
 pub fn against_lines(chart: Chart, word: i16) -> AgainstAnswer
     ensures { λ r. ⌜ againstSays r ≡ answerToAgainst chart word ⌝ }
 {
     if !chart.sound() {
         return AgainstAnswer::Refused(14);
     }
-    AgainstAnswer::Done(against_lines_sound(chart, word))
+    AgainstAnswer::Done(beyond_lines(lines_of_sound(chart), word))
 }
 
 // ---- the same of a chart that is known to be sound, as one that was just read is
@@ -91,17 +98,33 @@ pub fn lines_of_sound(chart: Chart) -> Lines
     requires { ⌜ soundChart chart ≡ true ⌝ }
     ensures { λ r. ⌜ linesSay r ≡ linesOf (limitsFor (stateOf chart)) ⌝ }
 {
-    let base = chart.base;
-    let n = chart.base_len;
-    let l = limits_of(chart.kind, &base[..n]);
-    lines_by(l)
+    lines_by(base_limits(chart))
 }
 
+// By the exact limits: no line is worked out.
 pub fn against_lines_sound(chart: Chart, word: i16) -> BeyondEach
     requires { ⌜ soundChart chart ≡ true ⌝ }
     ensures { λ r. ⌜ beyondSays r ≡ beyondEach (limitsFor (stateOf chart)) word ⌝ }
 {
-    beyond_lines(lines_of_sound(chart), word)
+    let l = base_limits(chart);
+    let warning = beyond(WARNING, l, word);
+    let control = beyond(CONTROL, l, word);
+    BeyondEach {
+        lower_warning: warning.lower,
+        upper_warning: warning.upper,
+        lower_control: control.lower,
+        upper_control: control.upper,
+    }
+}
+
+// The limits that its base gives.
+fn base_limits(chart: Chart) -> Limits
+    requires { ⌜ soundChart chart ≡ true ⌝ }
+    ensures { λ r. ⌜ LimitsFor (stateOf chart) r ⌝ }
+{
+    let base = chart.base;
+    let n = chart.base_len;
+    limits_of(chart.kind, &base[..n])
 }
 
 // ---- a word against doubles
@@ -164,11 +187,13 @@ fn lines_by(l: Limits) -> Lines
 {
     let s = l.sums;
     let mean = mean_line(s);
-    let upper_warning = upper_line(WARNING, s);
-    let upper_control = upper_line(CONTROL, s);
+    let warning = deviation_parts(WARNING, s);
+    let control = deviation_parts(CONTROL, s);
+    let upper_warning = upper_line(warning, s);
+    let upper_control = upper_line(control, s);
     if has_lower(l.kind) {
-        let lower_warning = lower_line(WARNING, s);
-        let lower_control = lower_line(CONTROL, s);
+        let lower_warning = lower_line(warning, s);
+        let lower_control = lower_line(control, s);
         return Lines::TwoSided(TwoSidedLines {
             mean,
             lower_warning,
@@ -191,20 +216,20 @@ fn mean_line(s: Sums) -> f64
     line_of(mean_parts(s))
 }
 
-// The line of the mean + m·S.
-fn upper_line(m: u8, s: Sums) -> f64
-    requires { ⌜ (m ≤ 3) × HasLines s ⌝ }
-    ensures { λ r. ⌜ r ≡ doubleOf (guide.upperLine m (sumsSay s)) ⌝ }
+// The line above the mean by the deviation d.
+fn upper_line(d: u32, s: Sums) -> f64
+    requires { ⌜ HasLines s ⌝ }
+    ensures { λ r. ⌜ r ≡ doubleOf (upperLineBy d (sumsSay s)) ⌝ }
 {
-    line_of(upper_parts(m, s))
+    line_of(upper_parts(d, s))
 }
 
-// The line of the mean − m·S.
-fn lower_line(m: u8, s: Sums) -> f64
-    requires { ⌜ (m ≤ 3) × HasLines s ⌝ }
-    ensures { λ r. ⌜ r ≡ doubleOf (guide.lowerLine m (sumsSay s)) ⌝ }
+// The line below it.
+fn lower_line(d: u32, s: Sums) -> f64
+    requires { ⌜ HasLines s ⌝ }
+    ensures { λ r. ⌜ r ≡ doubleOf (lowerLineBy d (sumsSay s)) ⌝ }
 {
-    line_of(lower_parts(m, s))
+    line_of(lower_parts(d, s))
 }
 
 // k / 256: a double holds k, 256 and their quotient exactly.

@@ -1,5 +1,6 @@
 // The whole numbers k of 256ths of the lines that sums of words give. With d the greatest whole number for which d / n is not more than
-// 256·m·S, an upper limit is the greatest k with n·k ≤ 256·T + d, and a lower one the least k with n·k ≥ 256·T − d.
+// 256·m·S, an upper limit is the greatest k with n·k ≤ 256·T + d, and a lower one the least k with n·k ≥ 256·T − d. d is a square root,
+// which is worked out once for both (`deviation_parts`).
 use chart::Chart;
 use limits::Sums;
 use limits::v_of;
@@ -10,7 +11,7 @@ ghost use Rattle.guide.specs.Sizes.{lineParts};
 ghost use Rattle.guide.specs.SquareRoot.{squareRoot};
 ghost use Rattle.guide.specs.Lines as guide;
 ghost use Rattle.limits.specs.Sums.{Bounded, sumsSay};
-ghost use Rattle.lines.specs.Lines.{HasLines, IsParts};
+ghost use Rattle.lines.specs.Lines.{upperLineBy, lowerLineBy, HasLines, IsParts};
 
 // The mean, rounded down.
 pub fn mean_parts(s: Sums) -> i64
@@ -20,24 +21,31 @@ pub fn mean_parts(s: Sums) -> i64
     quotient_down(sum_parts(s), s.n)
 }
 
-// The mean + m·S, rounded down.
-pub fn upper_parts(m: u8, s: Sums) -> i64
-    requires { ⌜ (m ≤ 3) × HasLines s ⌝ }
-    ensures { λ r. ⌜ IsParts (guide.upperLine m (sumsSay s)) r ⌝ }
+// 256 times the mean, + d / n, rounded down.
+pub fn upper_parts(d: u32, s: Sums) -> i64
+    requires { ⌜ HasLines s ⌝ }
+    ensures { λ r. ⌜ IsParts (upperLineBy d (sumsSay s)) r ⌝ }
 {
-    let t = sum_parts(s);
-    let d = deviation_parts(m, s) as i64;
-    quotient_down(t + d, s.n)
+    quotient_down(sum_parts(s) + (d as i64), s.n)
 }
 
-// The mean − m·S, rounded up.
-pub fn lower_parts(m: u8, s: Sums) -> i64
-    requires { ⌜ (m ≤ 3) × HasLines s ⌝ }
-    ensures { λ r. ⌜ IsParts (guide.lowerLine m (sumsSay s)) r ⌝ }
+// 256 times the mean, − d / n, rounded up.
+pub fn lower_parts(d: u32, s: Sums) -> i64
+    requires { ⌜ HasLines s ⌝ }
+    ensures { λ r. ⌜ IsParts (lowerLineBy d (sumsSay s)) r ⌝ }
 {
-    let t = sum_parts(s);
-    let d = deviation_parts(m, s) as i64;
-    quotient_up(t - d, s.n)
+    quotient_up(sum_parts(s) - (d as i64), s.n)
+}
+
+// The greatest whole d for which d / n is not more than 256·m·S. S itself is never rounded.
+pub fn deviation_parts(m: u8, s: Sums) -> u32
+    requires { ⌜ (m ≤ 3) × HasLines s ⌝ }
+    ensures { λ r. ⌜ r ≡ guide.greatestDeviation (lineParts * m) (sumsSay s) ⌝ }
+{
+    let n = s.n;
+    let multiple = (Chart::LINE_PARTS as u64) * (m as u64);
+    let v = v_of(s);
+    square_root(multiple * multiple * (n * v) / (n - 1))
 }
 
 // 256·T
@@ -48,33 +56,21 @@ fn sum_parts(s: Sums) -> i64
     (Chart::LINE_PARTS as i64) * s.t
 }
 
-// The greatest whole d for which d / n is not more than 256·m·S. S itself is never rounded.
-fn deviation_parts(m: u8, s: Sums) -> u32
-    requires { ⌜ (m ≤ 3) × HasLines s ⌝ }
-    ensures { λ r. ⌜ r ≡ guide.greatestDeviation (lineParts * m) (sumsSay s) ⌝ }
-{
-    let n = s.n;
-    let multiple = (Chart::LINE_PARTS as u64) * (m as u64);
-    let v = v_of(s);
-    square_root(multiple * multiple * (n * v) / (n - 1))
-}
-
-// The greatest whole number whose square is at most q.
+// The greatest whole number whose square is at most q, by Newton's steps. The first guess is a power of two that is not below the root,
+// from the number of binary digits of q. A guess above the root, which is one that q / guess is below, gives way to the mean of itself and
+// q / guess: that is less, and not below the root either. The square of a guess may be past 64 bits, and is not worked out.
 fn square_root(q: u64) -> u32
     ensures { λ r. ⌜ r ≡ squareRoot q ⌝ }
 {
-    let mut low: u64 = 0;
-    // The first number past 32 bits, whose square is past 64 bits: it is never squared.
-    let mut high: u64 = 4294967296;
-    while low + 1 < high {
-        let middle = low + (high - low) / 2;
-        if middle * middle <= q {
-            low = middle;
-        } else {
-            high = middle;
-        }
+    // A guess that is divided by is not 0, and neither is the root of any other q.
+    if q == 0 {
+        return 0;
     }
-    low as u32
+    let mut guess = 1u64 << ((65 - u64::leading_zeros(q)) / 2);
+    while q / guess < guess {
+        guess = (guess + q / guess) / 2;
+    }
+    guess as u32
 }
 
 // z / n rounded up: minus (−z / n rounded down).

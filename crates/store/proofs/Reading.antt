@@ -6,7 +6,7 @@ use mathlib.Core.List.{List, _++_, map}
 use Prim.Native.Nat.{ℕ, _-_, _≤_}
 use native.Mathlib.Omega.{arith}
 use lib.IntN.{ℤ, pos}
-use lib.ListN.{length, drop, getD, replicate, length-map}
+use lib.ListN.{length, drop, getD, replicate, length-map, length-append}
 use lib.Seq.{drop-drop}
 use Rattle.guide.specs.Choice.{choose}
 use Rattle.guide.specs.Sizes.{baseMost, seriesMost}
@@ -38,6 +38,14 @@ module _ (at : ℕ) (bytes : List ℕ) where
   place-numbers : numbersAt bytes (placeAt at bytes) ≡ recordNumbers (drop at bytes)
   unfolding numbersAt placeAt recordNumbers
   place-numbers = ap (numbersIn (countIn (drop at bytes))) (sym (drop-drop 4 at bytes))
+
+-- an array that was filled from a record has a place for each of its numbers
+pub filled-room : (bytes : List ℕ) (p : Place) (before places : List ℤ) → places ≡ filledFrom bytes p before → p .count ≤ length places
+unfolding filledFrom
+filled-room bytes p before places filled =
+    let words = map wordOf (numbersAt bytes p) in
+    let count : length words ≡ p .count = length-map (numbersAt bytes p) wordOf ∙ length-numbers-at bytes p in
+    omega (arith, ap length filled, length-append words (drop (p .count) before), count)
 
 -- ---- the places of the three records
 
@@ -154,14 +162,6 @@ module _ (bytes : List ℕ) (head base series : Place) (l : Laid bytes head base
         status = (status-is ∙ ap (λ (l : List ℕ). getD l 1 0) head-numbers) i;
         «open_verdict» = (verdict-is ∙ ap (λ (l : List ℕ). getD l 2 0) head-numbers) i;
       }
-
-  -- its lengths lie within its arrays
-  pub held-few : (c : Chart) → c ≡ chartOf (heldIn bytes) → (c .«base_len» ≤ baseMost) × (c .«series_len» ≤ seriesMost)
-  unfolding chartOf heldIn
-  held-few c is =
-      let of-base = ap (λ (x : Chart). x .«base_len») is ∙ sym (words-count base _ (ap (map wordOf) base-numbers)) in
-      let of-series = ap (λ (x : Chart). x .«series_len») is ∙ sym (words-count series _ (ap (map wordOf) series-numbers)) in
-      (omega (arith, of-base, base-few), omega (arith, of-series, series-few))
 
 -- ---- reading, by its cases
 

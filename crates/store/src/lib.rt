@@ -9,6 +9,7 @@ mod reader;
 mod records;
 
 use chart::Chart;
+use chart::soundness::is_sound;
 use chart::zero_chart;
 use numbers::word_of;
 use reader::Cursor;
@@ -24,8 +25,8 @@ ghost use Prim.Native.Nat.{_≤_};
 ghost use lib.ListN.{length};
 ghost use Rattle.guide.specs.Sizes.{baseMost, seriesMost};
 ghost use Rattle.guide.specs.StoredForm.{storedForm};
-ghost use Rattle.guide.specs.Reading.{heldIn, reading, refused};
-ghost use Rattle.chart.specs.Chart.{stateOf, chartOf};
+ghost use Rattle.guide.specs.Reading.{reading, refused};
+ghost use Rattle.chart.specs.Chart.{stateOf};
 ghost use Rattle.chart.specs.Soundness.{soundChart};
 ghost use Rattle.store.specs.Placed.{Placed};
 ghost use Rattle.store.specs.Records.{layoutOf, LiesWithin, filledFrom};
@@ -97,14 +98,7 @@ pub fn read(bytes: &[u8]) -> ReadChart
     let Layout::Form { head, base, series } = lay_out(bytes) else {
         return declined_read(13);
     };
-    let chart = chart_in(bytes, head, base, series);
-    if !chart.state_sound() {
-        return declined_read(14);
-    }
-    ReadChart {
-        chart,
-        answer: ReadAnswer::Done,
-    }
+    read_form(bytes, head, base, series)
 }
 
 // Writes a chart and reads back the bytes that were written: the same chart comes. Where writing declines, its number comes with the chart
@@ -188,23 +182,41 @@ fn lay_out(bytes: &[u8]) -> Layout
     Layout::Form { head, base, series }
 }
 
-// The chart that the three records hold.
-fn chart_in(bytes: &[u8], head: Place, base: Place, series: Place) -> Chart
+// The chart that the three records hold. Its soundness is asked of the words where they were put, and the chart is made once, in its
+// place in the answer: asked of a chart, its arrays would be copied once more for the question, and again into the answer.
+fn read_form(bytes: &[u8], head: Place, base: Place, series: Place) -> ReadChart
     requires { ⌜ layoutOf (now bytes) ≡ layout.Form head base series ⌝ }
-    ensures { λ r. ⌜ r ≡ chartOf (heldIn (now (bytes .entry))) ⌝ }
+    ensures { λ r. ⌜ IsRead (reading (now (bytes .entry))) r ⌝ }
 {
+    let kind = nth_number(bytes, head, 0);
+    let status = nth_number(bytes, head, 1);
+    let open_verdict = nth_number(bytes, head, 2);
+    let n = base.count;
     let mut base_words = [0i16; Chart::BASE_MOST];
     fill(&mut base_words, bytes, base);
+    let m = series.count;
     let mut series_words = [0i16; Chart::SERIES_MOST];
     fill(&mut series_words, bytes, series);
-    Chart {
-        kind: nth_number(bytes, head, 0),
-        base: base_words,
-        base_len: base.count,
-        series: series_words,
-        series_len: series.count,
-        status: nth_number(bytes, head, 1),
-        open_verdict: nth_number(bytes, head, 2),
+    if !is_sound(
+        kind,
+        &base_words[..n],
+        &series_words[..m],
+        status,
+        open_verdict,
+    ) {
+        return declined_read(14);
+    }
+    ReadChart {
+        chart: Chart {
+            kind,
+            base: base_words,
+            base_len: n,
+            series: series_words,
+            series_len: m,
+            status,
+            open_verdict,
+        },
+        answer: ReadAnswer::Done,
     }
 }
 

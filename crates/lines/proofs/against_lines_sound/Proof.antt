@@ -1,21 +1,25 @@
--- `lines::against_lines_sound` meets its contract.
+-- `lines::against_lines_sound` meets its contract: the word is compared with the limits themselves.
 use borrow.Author.Needs.{needs}
-use Rattle.lines.proofs.ChartLines.{lines-compared}
+use Rattle.lines.proofs.ChartLines.{limits-compared}
 use Rattle.lines.proofs.against_lines_sound.Statement.{statement}
 use Rattle.lines.proofs.against_lines_sound.Tie as tie
 
-lines-of-sound-requires : tie.Need-lines-of-sound-requires
-lines-of-sound-requires c κs = search needs
+base-limits-requires : tie.Need-base-limits-requires
+base-limits-requires c κs = search needs
 
-beyond-lines-requires : tie.Need-beyond-lines-requires
-beyond-lines-requires c κs = search needs
+beyond-requires : tie.Need-beyond-requires
+beyond-requires c κs = search needs
+
+beyond-requires-2 : tie.Need-beyond-requires-2
+beyond-requires-2 c κs = search needs
 
 returns : tie.Need-returns
 returns c =
-    let lines = c .before .lines-of-sound in
-    let start = c .before .before in
-    lines-compared (start .args .chart) (start .pre) (start .args .word) (lines .result) (c .beyond-lines .result) (start .fits .word)
-    (lines .ensures) (c .beyond-lines .ensures)
+    let warning = c .before in
+    let l = warning .before .base-limits in
+    let start = warning .before .before in
+    limits-compared (l .result) (start .args .word) (start .fits .word) (warning .beyond .result) (c .beyond2 .result)
+    (l .ensures .same) (warning .beyond .ensures) (c .beyond2 .ensures)
 
 pub against-lines-sound-spec : {M : Type 1} → statement M
-against-lines-sound-spec = tie.close (tie.spec lines-of-sound-requires beyond-lines-requires returns)
+against-lines-sound-spec = tie.close (tie.spec base-limits-requires beyond-requires beyond-requires-2 returns)

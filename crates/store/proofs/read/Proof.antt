@@ -1,10 +1,9 @@
--- `store::read` meets its contract: a law of reading for each return.
+-- `store::read` meets its contract: no layout is 13, and what follows one that was found is `read_form`'s.
 use borrow.Author.Needs.{needs}
 use mathlib.Core.Path.{_≡_, sym, _∙_}
-use Rattle.guide.proofs.Booleans.{answered-no, answered-yes}
 use Rattle.store.specs.Records.{layoutOf}
 use Rattle.store.specs.declared.Layout.the-variants.{Form}
-use Rattle.store.proofs.Reading.{laid-out, held-few, read-no-form, read-unsound, read-done, read-declined}
+use Rattle.store.proofs.Reading.{read-no-form, read-declined}
 use Rattle.store.proofs.read.Statement.{statement}
 use Rattle.store.proofs.read.Tie as tie
 
@@ -31,27 +30,11 @@ layout : (c : tie.After-known-told)
     layoutOf (c .before .before .before .before .before .args .bytes .now) ≡ Form (found .0) (found .1 .0) (found .1 .1 .0))
 layout c = sym (c .before .before .before .lay-out .ensures) ∙ c .before .head .given .1
 
-chart-in-requires : tie.Need-chart-in-requires
-chart-in-requires c κs = layout c
-
-state-sound-requires : tie.Need-state-sound-requires
-state-sound-requires c κs = held-few _ _ _ _ (laid-out _ _ _ _ (layout (c .before))) _ (c .chart-in .ensures)
-
-declined-read-requires-2 : tie.Need-declined-read-requires-2
-declined-read-requires-2 c κs = search needs
+read-form-requires : tie.Need-read-form-requires
+read-form-requires c κs = layout c
 
 returns-2 : tie.Need-returns-2
-returns-2 c =
-    let made = c .before .before .before in
-    let form = laid-out _ _ _ _ (layout (made .before)) .is-form in
-    let unsound = answered-no (c .before .before .state-sound .ensures) (c .before .if1 .taken) in
-    read-declined _ 14 _ (read-unsound _ form _ (made .chart-in .ensures) unsound) (c .declined-read2 .ensures)
-
-returns-3 : tie.Need-returns-3
-returns-3 c =
-    let made = c .before .before in
-    let form = laid-out _ _ _ _ (layout (made .before)) .is-form in
-    read-done _ form _ (made .chart-in .ensures) (answered-yes (c .before .state-sound .ensures) (c .if1 .left))
+returns-2 c = c .read-form .ensures
 
 pub read-spec : {M : Type 1} → statement M
 read-spec =
@@ -62,8 +45,5 @@ read-spec =
     enum-told
     declined-read-requires
     returns
-    chart-in-requires
-    state-sound-requires
-    declined-read-requires-2
-    returns-2
-    returns-3)
+    read-form-requires
+    returns-2)

@@ -1,10 +1,7 @@
 -- `chart::soundness::is_sound` meets its contract.
-use mathlib.Core.Path.{_≡_, sym}
-use native.Mathlib.Omega.{arith}
+use mathlib.Core.Path.{_≡_}
 use borrow.Author.Needs.{needs}
 use denote.Ref.{now}
-use lib.ListN.{length, take}
-use lib.Seq.{length-take-le}
 use Rattle.guide.specs.Limits.{limitsOf}
 use Rattle.guide.specs.State.{limitsFor}
 use Rattle.guide.specs.Soundness.{sound}
@@ -12,20 +9,8 @@ use Rattle.limits.specs.Sums.{limitsSay}
 use Rattle.chart.proofs.soundness.is_sound.Statement.{statement}
 use Rattle.chart.proofs.soundness.is_sound.Tie as tie
 
--- as many words as are asked for are taken of the places
-base-count : (c : tie.Start) → let a = c .args in length (take (a .n) (now (a .base-places))) ≡ a .n
-base-count c = let a = c .args in length-take-le (a .n) (now (a .base-places)) (c .pre .1 .0)
-
-slice-aggregate-base : tie.Need-slice-aggregate-base
-slice-aggregate-base c = sym (base-count (c .before))
-
-slice-aggregate-series : tie.Need-slice-aggregate-series
-slice-aggregate-series c =
-    let start = c .before .before in
-    sym (length-take-le (start .args .m) (now (start .args .series-places)) (start .pre .1 .1))
-
 limits-of-requires : tie.Need-limits-of-requires
-limits-of-requires c κs = let start = c .before .before in omega (arith, base-count start, start .pre .0)
+limits-of-requires c κs = search needs
 
 limits-hold-requires : tie.Need-limits-hold-requires
 limits-hold-requires c κs = c .limits-of .ensures .bounded
@@ -37,8 +22,7 @@ words-sound-requires : tie.Need-words-sound-requires
 words-sound-requires c κs = search needs
 
 -- the limits that were worked out are those of the base
-own : (c : tie.After-limits-of) → let a = c .before .before .before .args in
-    limitsSay (c .limits-of .result) ≡ limitsOf (a .kind) (take (a .n) (now (a .base-places)))
+own : (c : tie.After-limits-of) → let a = c .before .args in limitsSay (c .limits-of .result) ≡ limitsOf (a .kind) (now (a .base))
 own c = c .limits-of .ensures .same
 
 returns : tie.Need-returns
@@ -53,8 +37,6 @@ pub is-sound-spec : {M : Type 1} → statement M
 is-sound-spec =
     tie.close
     (tie.spec
-    slice-aggregate-base
-    slice-aggregate-series
     limits-of-requires
     limits-hold-requires
     status-fits-requires

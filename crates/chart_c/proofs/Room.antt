@@ -1,0 +1,91 @@
+-- Only a post makes a chart's form longer (`form-not-longer`). So a reanalysis, a correction and a renewal of a form that stands in a buffer
+-- have room in it (`room-kept`), and 15 does not occur.
+use mathlib.Core.Path.{_≡_, refl, sym, ap, _∙_}
+use mathlib.Core.Bool.{Bool, true, false}
+use mathlib.Core.List.{List, _∷_, [], _++_}
+use Prim.Native.Nat.{ℕ, _+_, _*_, _≤_}
+use native.Mathlib.Omega.{arith}
+use lib.ListN.{length, take, length-append}
+use lib.Seq.{length-take-le}
+use lib.Dec.{leb}
+use lib.IntN.{ℤ}
+use borrow.Author.Tests.{le-leb, leb-true}
+use Rattle.guide.specs.Choice.{require}
+use Rattle.guide.specs.Sizes.{baseWanted}
+use Rattle.guide.specs.LastWords.{lastWords, butLast}
+use Rattle.guide.specs.State.{State, fresh, setStatus, replaceLast}
+use Rattle.guide.specs.Soundness.{sound}
+use Rattle.guide.specs.Rejection.{rejection}
+use Rattle.guide.specs.StoredForm.{storedForm, hasRoom}
+use Rattle.guide.specs.Reading.{ReadingAnswer, taken, refused, reading}
+use Rattle.guide.specs.Reanalysis.{passes}
+use Rattle.guide.specs.State.{limitsFor}
+use Rattle.guide.specs.Machine.{Call, Answer, judged, reanalysed, corrected, renewed, Next, step, posting, reanalysing, afterReanalysis}
+use Rattle.guide.specs.Machine.{correcting, renewing}
+use Rattle.guide.specs.Machine as machine
+use Rattle.guide.proofs.Booleans.{by-test}
+use Rattle.guide.proofs.Bytes.{AreBytes}
+use Rattle.guide.proofs.LastWords.{length-but-last, length-last-words}
+use Rattle.guide.proofs.Rejection.{rejection-counts}
+use Rattle.guide.proofs.Soundness.{sound-facts, not-free-facts}
+use Rattle.guide.proofs.Reading.{length-form, stored-read}
+use Rattle.guide.proofs.Machine.{step-ind}
+use Rattle.chart_c.specs.Forms.{readingFront}
+
+-- a post answers word and verdict, and no other call does
+abbrev isPosted : Answer → Bool
+isPosted (judged w v) = true
+isPosted (reanalysed w passed) = false
+isPosted corrected = false
+isPosted (renewed rounds removed) = false
+isPosted (machine.refused n) = false
+
+-- a form is as long as its words ask, whatever kind, status and verdict are
+no-longer : (s t : State) → length (t .base) + length (t .series) ≤ length (s .base) + length (s .series)
+    → length (storedForm t) ≤ length (storedForm s)
+no-longer s t h = omega (arith, length-form s, length-form t)
+
+module _ (s : State) (h : sound s ≡ true) where
+  abbrev NotLonger : Next → Type 0
+  NotLonger next = isPosted (next .answer) ≡ false → length (storedForm (next .state)) ≤ length (storedForm s)
+
+  by-passing : (w : ℤ) (passed : Bool) → s .status ≡ 1 → length (storedForm (afterReanalysis s w passed)) ≤ length (storedForm s)
+  unfolding afterReanalysis setStatus replaceLast
+  by-passing w true due =
+      let some = not-free-facts s (sound-facts s h) (λ z. omega arith) .some-series in
+      no-longer s _ (omega (arith, length-append (butLast (s .series)) (w ∷ []), length-but-last (s .series)))
+  by-passing w false due = no-longer s _ (omega arith)
+
+  renewal-no-longer : baseWanted ≤ length (s .base) + length (s .series) → length (storedForm (renewing s .state)) ≤ length (storedForm s)
+  unfolding renewing fresh
+  renewal-no-longer enough =
+      let all = s .base ++ s .series in
+      let words = lastWords baseWanted all in
+      let total = length-append (s .base) (s .series) in
+      let few = length-last-words baseWanted all (omega arith) in
+      no-longer s _ (omega (arith, rejection-counts (s .kind) words))
+
+  pub form-not-longer : (call : Call) → NotLonger (step s call)
+  unfolding posting reanalysing correcting setStatus renewing
+  form-not-longer call =
+      step-ind s NotLonger
+      (λ n _ e. omega arith)
+      (λ w free room r e. let z : _≡_ {A = ℕ} 0 1 = cc in absurd (omega arith))
+      (λ w due r e. by-passing w (passes (limitsFor s) (s .openVerdict) (s .series) w) due)
+      (λ due e. no-longer s _ (omega arith))
+      (λ free enough e. renewal-no-longer enough)
+      call
+
+-- a form that is read from the front of a buffer is no longer than the buffer
+front-facts : (fits : Bool) (a : ReadingAnswer) (s : State) → require fits (refused 13) a ≡ taken s → (fits ≡ true) × (a ≡ taken s)
+front-facts true a s e = (refl, e)
+front-facts false a s e = let z : _≡_ {A = ℕ} 0 1 = cc in absurd (omega arith)
+
+pub room-kept : (buffer : List ℕ) (size : ℕ) (s : State) → AreBytes (take size buffer) → readingFront buffer size ≡ taken s
+    → sound s ≡ true → (call : Call) → isPosted (step s call .answer) ≡ false → hasRoom (step s call .state) buffer ≡ true
+unfolding readingFront hasRoom
+room-kept buffer size s are e h call other =
+    let facts = front-facts (leb size (length buffer)) (reading (take size buffer)) s e in
+    let fits = leb-true size (length buffer) (facts .0) in
+    let form = ap length (stored-read (take size buffer) s are (facts .1)) ∙ length-take-le size buffer fits in
+    le-leb (length (storedForm (step s call .state))) (length buffer) (omega (arith, form-not-longer s h call other))
