@@ -29,7 +29,9 @@ use Rattle.chart_c.proofs.Held.{Taken, is-reading, not-held, then-taken
 module _ (doubles before : List Float) (count : ℕ) where
   pub doubles-short : length before < length doubles → Draws (doublesInto before doubles) before before count count 15
   unfolding doublesInto numberOf lentAfter
-  doubles-short h = let short = lt-leb (length doubles) (length before) h in record { answered = rw short; buffer = rw short; of-count = rw short }
+  doubles-short h =
+      let short = lt-leb (length doubles) (length before) h in
+      record { answered = rw short; buffer = rw short; of-count = rw short }
 
   pub doubles-put : length doubles ≤ length before → (after : List Float) → after ≡ atFront doubles before
       → Draws (doublesInto before doubles) before after count (length doubles) 0
@@ -81,7 +83,8 @@ module _ (bytes : List ℕ) (c : Chart) (t : Taken (reading bytes) c) where
         → (after : List ℕ) → after ≡ atFront (flagsOf b) before → Compares (compared bytes w before) before after 0
     unfolding comparedInto numberOf lentAfter
     beyond-put f h b e after is =
-        let own : b ≡ beyondEach (limitsFor (t .state)) w = e ∙ ap (λ (s : State). beyondEach (limitsFor s) w) (same-state (reading bytes) c t) in
+        let taken = same-state (reading bytes) c t in
+        let own : b ≡ beyondEach (limitsFor (t .state)) w = e ∙ ap (λ (s : State). beyondEach (limitsFor s) w) taken in
         rw (compared-is, f, le-leb 4 (length before) h)
         (record { answered = refl; buffer = is ∙ ap (λ (x : guide.BeyondEach). atFront (flagsOf x) before) own })
 

@@ -45,14 +45,16 @@ module _ (c : Chart) (t : soundChart c ≡ true) (before after : List ℕ) (n : 
   put-done w size =
       let says : wrote n ≡ writing (stateOf c) before = rw t at (w .says) in
       let facts = wrote-by (hasRoom (stateOf c) before) n (length (storedForm (stateOf c))) says in
-      record { answered = rw (facts .0); buffer = rw (facts .0) (rw (facts .0) at (buffer-is (w .buffer))); count = rw (facts .0) (facts .1) }
+      let put = rw (facts .0) at (buffer-is (w .buffer)) in
+      record { answered = rw (facts .0); buffer = rw (facts .0) put; count = rw (facts .0) (facts .1) }
 
   pub put-declined : Writes c before after (write.Refused n) → (size : ℕ) → PutsChart (stateOf c) before after size size n
   unfolding writeSays answerToWrite writing bufferAfter ifRoom numberOf lentAfter
   put-declined w size =
       let says : form.refused n ≡ writing (stateOf c) before = rw t at (w .says) in
       let facts = refused-by (hasRoom (stateOf c) before) n (length (storedForm (stateOf c))) says in
-      record { answered = rw (facts .0) (facts .1); buffer = rw (facts .0) (rw (facts .0) at (buffer-is (w .buffer))); count = rw (facts .0) }
+      let put = rw (facts .0) at (buffer-is (w .buffer)) in
+      record { answered = rw (facts .0) (facts .1); buffer = rw (facts .0) put; count = rw (facts .0) }
 
 -- ---- a lent place
 

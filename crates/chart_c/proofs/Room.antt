@@ -1,5 +1,5 @@
--- Only a post makes a chart's form longer (`form-not-longer`). So a reanalysis, a correction and a renewal of a form that stands in a buffer
--- have room in it (`room-kept`), and 15 does not occur.
+-- Only a post makes a chart's form longer (`form-not-longer`). So a reanalysis, a correction and a renewal of a form that stands in a
+-- buffer have room in it (`room-kept`), and 15 does not occur.
 use mathlib.Core.Path.{_≡_, refl, sym, ap, _∙_}
 use mathlib.Core.Bool.{Bool, true, false}
 use mathlib.Core.List.{List, _∷_, [], _++_}

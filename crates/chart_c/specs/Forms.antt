@@ -25,8 +25,8 @@ readingFront buffer size = require (leb size (length buffer)) (refused 13) (read
 
 -- ---- a chart put into a buffer
 
--- 15 "buffer shorter than the stored form" comes last: what is done is declined all the same where the chart after it has no room. 14, which
--- writing looks at before, never applies: building, and a call on a sound chart, give a sound one
+-- 15 "buffer shorter than the stored form" comes last: what is done is declined all the same where the chart after it has no room. 14,
+-- which writing looks at before, never applies: building, and a call on a sound chart, give a sound one
 unfoldable pub ifRoom : {A : Type 0} → (A → State) → List ℕ → A → Outcome A
 ifRoom state buffer x = require (hasRoom (state x) buffer) (declined 15) (done x)
 

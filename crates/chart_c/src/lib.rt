@@ -32,7 +32,8 @@ ghost use Rattle.guide.specs.Building.{building};
 ghost use Rattle.guide.specs.Machine as machine;
 ghost use Rattle.chart.specs.Chart.{stateOf};
 ghost use Rattle.chart.specs.Soundness.{soundChart};
-ghost use Rattle.chart_c.specs.Calls.{formedOutcome, FormsWord, builtOutcome, BuildsInto, called, KeepsNext, Posts, Reanalyses, Renews, reanalysedOutcome};
+ghost use Rattle.chart_c.specs.Calls.{formedOutcome, builtOutcome, called, reanalysedOutcome};
+ghost use Rattle.chart_c.specs.Calls.{FormsWord, BuildsInto, KeepsNext, Posts, Reanalyses, Renews};
 ghost use Rattle.chart_c.specs.Plotting.{drawn, Draws, compared, Compares, Checks};
 
 // A kind is brought as a number of 32 bits, so that one which sixteen bits do not hold is not cut to a kind on its way here.
@@ -59,7 +60,10 @@ pub extern "C" fn control_chart_build(
     rounds: &mut usize,
     removed: &mut usize,
 ) -> u16
-    ensures { λ r. ⌜ BuildsInto (builtOutcome (now (chart .entry)) (building kind (now (words .entry)))) (now (chart .entry)) (now (chart .exit)) (now (size .entry)) (now (size .exit)) (now (rounds .entry)) (now (rounds .exit)) (now (removed .entry)) (now (removed .exit)) r ⌝ }
+    ensures { λ r.
+        ⌜ BuildsInto (builtOutcome (now (chart .entry)) (building kind (now (words .entry))))
+        (now (chart .entry)) (now (chart .exit)) (now (size .entry)) (now (size .exit))
+        (now (rounds .entry)) (now (rounds .exit)) (now (removed .entry)) (now (removed .exit)) r ⌝ }
 {
     let built = Chart::build(kind_of(kind), words);
     let next = built.chart;
@@ -92,7 +96,10 @@ pub extern "C" fn control_chart_post(
     word: &mut i16,
     verdict: &mut u16,
 ) -> u16
-    ensures { λ r. ⌜ Posts (called (now (chart .entry)) (now (size .entry)) (machine.post kind a b c)) (now (chart .entry)) (now (chart .exit)) (now (size .entry)) (now (size .exit)) (now (word .entry)) (now (word .exit)) (now (verdict .entry)) (now (verdict .exit)) r ⌝ }
+    ensures { λ r.
+        ⌜ Posts (called (now (chart .entry)) (now (size .entry)) (machine.post kind a b c))
+        (now (chart .entry)) (now (chart .exit)) (now (size .entry)) (now (size .exit)) (now (word .entry))
+        (now (word .exit)) (now (verdict .entry)) (now (verdict .exit)) r ⌝ }
 {
     let held = held_at_front(chart, *size);
     let before = held.chart;
@@ -131,7 +138,10 @@ pub extern "C" fn control_chart_reanalyse(
     word: &mut i16,
     passed: &mut u8,
 ) -> u16
-    ensures { λ r. ⌜ Reanalyses (called (now (chart .entry)) (now (size .entry)) (machine.reanalysis kind a b c)) (now (chart .entry)) (now (chart .exit)) (now (size .entry)) (now (size .exit)) (now (word .entry)) (now (word .exit)) (now (passed .entry)) (now (passed .exit)) r ⌝ }
+    ensures { λ r.
+        ⌜ Reanalyses (called (now (chart .entry)) (now (size .entry)) (machine.reanalysis kind a b c))
+        (now (chart .entry)) (now (chart .exit)) (now (size .entry)) (now (size .exit)) (now (word .entry))
+        (now (word .exit)) (now (passed .entry)) (now (passed .exit)) r ⌝ }
 {
     let held = held_at_front(chart, *size);
     let before = held.chart;
@@ -160,7 +170,10 @@ fn put_reanalysed(
     passed: &mut u8,
 ) -> u16
     requires { ⌜ soundChart next ≡ true ⌝ }
-    ensures { λ r. ⌜ Reanalyses (reanalysedOutcome (now (chart .entry)) (stateOf next) w passes) (now (chart .entry)) (now (chart .exit)) (now (size .entry)) (now (size .exit)) (now (word .entry)) (now (word .exit)) (now (passed .entry)) (now (passed .exit)) r ⌝ }
+    ensures { λ r.
+        ⌜ Reanalyses (reanalysedOutcome (now (chart .entry)) (stateOf next) w passes)
+        (now (chart .entry)) (now (chart .exit)) (now (size .entry)) (now (size .exit)) (now (word .entry))
+        (now (word .exit)) (now (passed .entry)) (now (passed .exit)) r ⌝ }
 {
     let number = put_chart(next, chart, size);
     if number != 0 {
@@ -173,7 +186,9 @@ fn put_reanalysed(
 
 #[no_mangle]
 pub extern "C" fn control_chart_correct(chart: &mut [u8], size: &mut usize) -> u16
-    ensures { λ r. ⌜ KeepsNext (called (now (chart .entry)) (now (size .entry)) machine.correction) (now (chart .entry)) (now (chart .exit)) (now (size .entry)) (now (size .exit)) r ⌝ }
+    ensures { λ r.
+        ⌜ KeepsNext (called (now (chart .entry)) (now (size .entry)) machine.correction)
+        (now (chart .entry)) (now (chart .exit)) (now (size .entry)) (now (size .exit)) r ⌝ }
 {
     let held = held_at_front(chart, *size);
     let before = held.chart;
@@ -197,7 +212,10 @@ pub extern "C" fn control_chart_renew(
     rounds: &mut usize,
     removed: &mut usize,
 ) -> u16
-    ensures { λ r. ⌜ Renews (called (now (chart .entry)) (now (size .entry)) machine.renewal) (now (chart .entry)) (now (chart .exit)) (now (size .entry)) (now (size .exit)) (now (rounds .entry)) (now (rounds .exit)) (now (removed .entry)) (now (removed .exit)) r ⌝ }
+    ensures { λ r.
+        ⌜ Renews (called (now (chart .entry)) (now (size .entry)) machine.renewal)
+        (now (chart .entry)) (now (chart .exit)) (now (size .entry)) (now (size .exit))
+        (now (rounds .entry)) (now (rounds .exit)) (now (removed .entry)) (now (removed .exit)) r ⌝ }
 {
     let held = held_at_front(chart, *size);
     let before = held.chart;
@@ -227,7 +245,9 @@ pub extern "C" fn control_chart_renew(
 
 #[no_mangle]
 pub extern "C" fn control_chart_lines(chart: &[u8], lines: &mut [f64], count: &mut usize) -> u16
-    ensures { λ r. ⌜ Draws (drawn (now (chart .entry)) (now (lines .entry))) (now (lines .entry)) (now (lines .exit)) (now (count .entry)) (now (count .exit)) r ⌝ }
+    ensures { λ r.
+        ⌜ Draws (drawn (now (chart .entry)) (now (lines .entry)))
+        (now (lines .entry)) (now (lines .exit)) (now (count .entry)) (now (count .exit)) r ⌝ }
 {
     let held = held_in(chart);
     let before = held.chart;

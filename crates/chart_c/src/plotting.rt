@@ -13,7 +13,9 @@ pub const BEYOND_SIZE: usize = 4;
 
 // The lines' doubles go to the front of the buffer, and how many they are beside it; or 15, and both are as they were.
 pub fn put_lines(lines: Lines, buffer: &mut [f64], count: &mut usize) -> u16
-    ensures { λ r. ⌜ Draws (doublesInto (now (buffer .entry)) (doublesOf (linesSay lines))) (now (buffer .entry)) (now (buffer .exit)) (now (count .entry)) (now (count .exit)) r ⌝ }
+    ensures { λ r.
+        ⌜ Draws (doublesInto (now (buffer .entry)) (doublesOf (linesSay lines)))
+        (now (buffer .entry)) (now (buffer .exit)) (now (count .entry)) (now (count .exit)) r ⌝ }
 {
     match lines {
         Lines::Duplicate {
@@ -38,7 +40,9 @@ pub fn put_lines(lines: Lines, buffer: &mut [f64], count: &mut usize) -> u16
 }
 
 fn put_doubles(doubles: &[f64], buffer: &mut [f64], count: &mut usize) -> u16
-    ensures { λ r. ⌜ Draws (doublesInto (now (buffer .entry)) (now (doubles .entry))) (now (buffer .entry)) (now (buffer .exit)) (now (count .entry)) (now (count .exit)) r ⌝ }
+    ensures { λ r.
+        ⌜ Draws (doublesInto (now (buffer .entry)) (now (doubles .entry)))
+        (now (buffer .entry)) (now (buffer .exit)) (now (count .entry)) (now (count .exit)) r ⌝ }
 {
     if buffer.len() < doubles.len() {
         return 15;

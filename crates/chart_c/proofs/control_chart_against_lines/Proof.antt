@@ -23,7 +23,8 @@ taken : (c : tie.Else1) → let held = c .before .before in
     Taken (reading (now (held .before .before .before .args .chart))) (held .held-in .result .chart)
 taken c =
     let held = c .before .before in
-    held-taken _ (is-reading (now (held .before .before .before .args .chart))) (held .held-in .result) (held .held-in .ensures) (c .if1 .left)
+    let bytes = now (held .before .before .before .args .chart) in
+    held-taken _ (is-reading bytes) (held .held-in .result) (held .held-in .ensures) (c .if1 .left)
 
 is-word-requires : tie.Need-is-word-requires
 is-word-requires c κs = search needs

@@ -35,7 +35,8 @@ came : (c : tie.After-known-told) → let b = c .before .before .before .before 
     let a = b .before .before .before .args in
     let given = c .before .answer .given .0 in
     builtOutcome (now (a .chart)) (building (a .kind) (now (a .words)))
-    ≡ ifRoom (λ (x : Built). x .state) (now (a .chart)) (record { state = stateOf (b .build .result .chart); rounds = given .0; removed = given .1 .0 })
+    ≡ ifRoom (λ (x : Built). x .state) (now (a .chart))
+    (record { state = stateOf (b .build .result .chart); rounds = given .0; removed = given .1 .0 })
 came c =
     let b = c .before .before .before .before in
     built-is _ _ _ (builds b .chart) _ _ (rw (c .before .answer .given .1) at (builds b .says)) _

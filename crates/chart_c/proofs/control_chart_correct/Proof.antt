@@ -34,7 +34,8 @@ taken : (c : tie.Else1) → let a = begun (c .before .before) .args in
 taken c =
     let held = c .before .before in
     let a = begun held .args in
-    held-taken _ (is-front-reading (now (a .chart)) (now (a .size))) (held .held-at-front .result) (held .held-at-front .ensures) (c .if1 .left)
+    let h = held .held-at-front in
+    held-taken _ (is-front-reading (now (a .chart)) (now (a .size))) (h .result) (h .ensures) (c .if1 .left)
 
 correct-sound-requires : tie.Need-correct-sound-requires
 correct-sound-requires c κs = taken c .chart-sound

@@ -19,7 +19,8 @@ taken : (c : tie.Else1) → let held = c .before .before in
     Taken (reading (now (held .before .before .before .args .chart))) (held .held-in .result .chart)
 taken c =
     let held = c .before .before in
-    held-taken _ (is-reading (now (held .before .before .before .args .chart))) (held .held-in .result) (held .held-in .ensures) (c .if1 .left)
+    let bytes = now (held .before .before .before .args .chart) in
+    held-taken _ (is-reading bytes) (held .held-in .result) (held .held-in .ensures) (c .if1 .left)
 
 lines-of-sound-requires : tie.Need-lines-of-sound-requires
 lines-of-sound-requires c κs = taken c .chart-sound

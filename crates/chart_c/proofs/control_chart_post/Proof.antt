@@ -10,7 +10,8 @@ use Rattle.chart.specs.Calls.{Gives, postSays}
 use Rattle.chart_c.specs.Forms.{readingFront, ifRoom}
 use Rattle.chart_c.specs.Calls.{called, unlessRefused, wordIn, verdictIn}
 use Rattle.chart_c.proofs.Held.{Taken, is-front-reading, held-taken}
-use Rattle.chart_c.proofs.Kept.{lent-declined, lent-done, keeps-declined, put-keeps, put-taken, put-short, not-called, next-sound, called-is}
+use Rattle.chart_c.proofs.Kept.{lent-declined, lent-done, keeps-declined, put-keeps, put-taken, put-short}
+use Rattle.chart_c.proofs.Kept.{not-called, next-sound, called-is}
 use Rattle.chart_c.proofs.SameKind.{same-post}
 use Rattle.chart_c.proofs.control_chart_post.Statement.{statement}
 use Rattle.chart_c.proofs.control_chart_post.Tie as tie
@@ -42,7 +43,8 @@ taken : (c : tie.Else1) → let a = begun (c .before .before) .args in
 taken c =
     let held = c .before .before in
     let a = begun held .args in
-    held-taken _ (is-front-reading (now (a .chart)) (now (a .size))) (held .held-at-front .result) (held .held-at-front .ensures) (c .if1 .left)
+    let h = held .held-at-front in
+    held-taken _ (is-front-reading (now (a .chart)) (now (a .size))) (h .result) (h .ensures) (c .if1 .left)
 
 kind-of-requires : tie.Need-kind-of-requires
 kind-of-requires c κs = search needs
@@ -64,7 +66,8 @@ same c =
     ap (λ (k : ℕ). step (t .state) (post k (a .a) (a .b) (a .c))) (c .kind-of .ensures)
     ∙ same-post (t .state) (t .state-sound) (a .kind) (a .a) (a .b) (a .c)
 
-gives : (c : tie.After-post-sound) → Gives (c .before .before .before .before .held-at-front .result .chart) (made (c .before)) (c .post-sound .result .chart) (postSays (c .post-sound .result .answer))
+gives : (c : tie.After-post-sound) → let called = c .post-sound .result in
+    Gives (c .before .before .before .before .held-at-front .result .chart) (made (c .before)) (called .chart) (postSays (called .answer))
 gives c =
     let fits = begun (c .before .before .before .before) .fits in
     rw (toZ-ofZ (fits .a), toZ-ofZ (fits .b), toZ-ofZ (fits .c)) at (c .post-sound .ensures)
@@ -74,7 +77,8 @@ came : (c : tie.After-known-told) → let posted = c .before .before .before .be
     let a = begun (posted .before .before .before .before) .args in
     let given = c .before .answer .given .0 in
     called (now (a .chart)) (now (a .size)) (call (begun (posted .before .before .before .before)))
-    ≡ ifRoom (λ (n : Next). n .state) (now (a .chart)) (record { state = stateOf (posted .post-sound .result .chart); answer = judged (given .0) (given .1 .0) })
+    ≡ ifRoom (λ (n : Next). n .state) (now (a .chart))
+    (record { state = stateOf (posted .post-sound .result .chart); answer = judged (given .0) (given .1 .0) })
 unfolding postSays unlessRefused
 came c =
     let posted = c .before .before .before .before in

@@ -41,7 +41,8 @@ taken : (c : tie.Else1) → let a = begun (c .before .before) .args in
 taken c =
     let held = c .before .before in
     let a = begun held .args in
-    held-taken _ (is-front-reading (now (a .chart)) (now (a .size))) (held .held-at-front .result) (held .held-at-front .ensures) (c .if1 .left)
+    let h = held .held-at-front in
+    held-taken _ (is-front-reading (now (a .chart)) (now (a .size))) (h .result) (h .ensures) (c .if1 .left)
 
 kind-of-requires : tie.Need-kind-of-requires
 kind-of-requires c κs = search needs
@@ -63,7 +64,9 @@ same c =
     ap (λ (k : ℕ). step (t .state) (reanalysis k (a .a) (a .b) (a .c))) (c .kind-of .ensures)
     ∙ same-reanalysis (t .state) (t .state-sound) (a .kind) (a .a) (a .b) (a .c)
 
-gives : (c : tie.After-reanalyse-sound) → Gives (c .before .before .before .before .held-at-front .result .chart) (made (c .before)) (c .reanalyse-sound .result .chart) (reanalysisSays (c .reanalyse-sound .result .answer))
+gives : (c : tie.After-reanalyse-sound) → let called = c .reanalyse-sound .result in
+    Gives (c .before .before .before .before .held-at-front .result .chart) (made (c .before))
+    (called .chart) (reanalysisSays (called .answer))
 gives c =
     let fits = begun (c .before .before .before .before) .fits in
     rw (toZ-ofZ (fits .a), toZ-ofZ (fits .b), toZ-ofZ (fits .c)) at (c .reanalyse-sound .ensures)

@@ -8,7 +8,8 @@ use Rattle.chart.specs.Calls.{renewalSays}
 use Rattle.chart_c.specs.Forms.{readingFront, ifRoom}
 use Rattle.chart_c.specs.Calls.{called, unlessRefused, roundsIn, removedIn}
 use Rattle.chart_c.proofs.Held.{Taken, is-front-reading, held-taken}
-use Rattle.chart_c.proofs.Kept.{lent-declined, lent-done, keeps-declined, put-keeps, put-taken, put-short, not-called, next-sound, called-is}
+use Rattle.chart_c.proofs.Kept.{lent-declined, lent-done, keeps-declined, put-keeps, put-taken, put-short}
+use Rattle.chart_c.proofs.Kept.{not-called, next-sound, called-is}
 use Rattle.chart_c.proofs.control_chart_renew.Statement.{statement}
 use Rattle.chart_c.proofs.control_chart_renew.Tie as tie
 
@@ -35,7 +36,8 @@ taken : (c : tie.Else1) → let a = begun (c .before .before) .args in
 taken c =
     let held = c .before .before in
     let a = begun held .args in
-    held-taken _ (is-front-reading (now (a .chart)) (now (a .size))) (held .held-at-front .result) (held .held-at-front .ensures) (c .if1 .left)
+    let h = held .held-at-front in
+    held-taken _ (is-front-reading (now (a .chart)) (now (a .size))) (h .result) (h .ensures) (c .if1 .left)
 
 renew-sound-requires : tie.Need-renew-sound-requires
 renew-sound-requires c κs = taken c .chart-sound
@@ -48,7 +50,8 @@ came : (c : tie.After-known-told) → let renewed-by = c .before .before .before
     let a = begun (renewed-by .before .before .before) .args in
     let given = c .before .answer .given .0 in
     called (now (a .chart)) (now (a .size)) renewal
-    ≡ ifRoom (λ (n : Next). n .state) (now (a .chart)) (record { state = stateOf (renewed-by .renew-sound .result .chart); answer = renewed (given .0) (given .1 .0) })
+    ≡ ifRoom (λ (n : Next). n .state) (now (a .chart))
+    (record { state = stateOf (renewed-by .renew-sound .result .chart); answer = renewed (given .0) (given .1 .0) })
 unfolding renewalSays unlessRefused
 came c =
     let renewed-by = c .before .before .before .before in

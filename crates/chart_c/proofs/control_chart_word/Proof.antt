@@ -27,7 +27,8 @@ formed : (c : tie.After-word) → let a = c .before .before .args in formedSays 
 formed c =
     let start = c .before .before in
     let a = start .args in
-    let said = rw (toZ-ofZ (start .fits .a), toZ-ofZ (start .fits .b), toZ-ofZ (start .fits .c), c .before .kind-of .ensures) at (c .word .ensures) in
+    let fits = start .fits in
+    let said = rw (toZ-ofZ (fits .a), toZ-ofZ (fits .b), toZ-ofZ (fits .c), c .before .kind-of .ensures) at (c .word .ensures) in
     said ∙ same-word (a .kind) (a .a) (a .b) (a .c)
 
 returns : tie.Need-returns

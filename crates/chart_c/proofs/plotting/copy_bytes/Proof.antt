@@ -36,7 +36,8 @@ loop-again : tie.Need-loop-again Inv-loop μ-loop
 loop-again c =
     let at = c .before .before in
     let a = at .before .args in
-    (search needs, (search needs, front-more (now (a .bytes)) (now (a .buffer)) (at .loop .i) 0 (omega arith) (omega arith) (at .loop .inv .1 .1) refl))
+    let more = front-more (now (a .bytes)) (now (a .buffer)) (at .loop .i) 0 (omega arith) (omega arith) (at .loop .inv .1 .1) refl in
+    (search needs, (search needs, more))
 
 same-length : tie.Need-same-length Inv-loop μ-loop
 same-length c = search needs

@@ -43,7 +43,8 @@ loop-again : tie.Need-loop-again Inv-loop μ-loop
 loop-again c =
     let at = c .before .before in
     let a = at .before .args in
-    (search needs, (search needs, front-more (now (a .doubles)) (now (a .buffer)) (at .loop .i) nan (omega arith) (omega arith) (at .loop .inv .1 .1) refl))
+    let more = front-more (now (a .doubles)) (now (a .buffer)) (at .loop .i) nan (omega arith) (omega arith) (at .loop .inv .1 .1) refl in
+    (search needs, (search needs, more))
 
 same-length : tie.Need-same-length Inv-loop μ-loop
 same-length c = search needs

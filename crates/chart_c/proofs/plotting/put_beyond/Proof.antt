@@ -41,7 +41,9 @@ returns c =
     let upper-warning = second .flag-of2 .ensures in
     let lower-control = third .flag-of3 .ensures in
     let upper-control = fourth .flag-of4 .ensures in
-    copied .copy-bytes .ensures ∙ (λ i. atFront (lower-warning i ∷ upper-warning i ∷ lower-control i ∷ upper-control i ∷ []) (first .before .before .args .buffer .now))
+    let buffer = first .before .before .args .buffer .now in
+    copied .copy-bytes .ensures
+    ∙ (λ i. atFront (lower-warning i ∷ upper-warning i ∷ lower-control i ∷ upper-control i ∷ []) buffer)
 
 pub put-beyond-spec : {M : Type 1} → statement M
 put-beyond-spec =
