@@ -17,7 +17,11 @@
  * buffer that the caller lends. The form is bytes, the same on every machine: keep them in a file or a database as they are. `room` is the
  * number of bytes of the buffer, and *size that of the form, which stands at its front. Building sets *size; post, reanalyse, correct and
  * renew take it and set it; lines, against_lines and check take the form's size itself. A buffer of CONTROL_CHART_FORM_MOST bytes has room for
- * every chart. Bytes behind the form stay as they are: only the first *size bytes are the chart.
+ * every chart. Bytes behind the form stay as they are: only the first *size bytes are the chart, to be kept after every call that changes it.
+ * To go on with a kept chart, copy its bytes to the front of a buffer, set *size to their number, and ask control_chart_check.
+ *
+ * A chart is free, or a reanalysis is due, or a correction is due: its status, with the verdict that is open. A chart is sound if its words,
+ * status and open verdict are such as the calls leave.
  *
  * THE LIMITS come from the words of the base: their mean and their standard deviation S, with the divisor n - 1. Control limits are the
  * mean + 3 S and the mean - 3 S, warning limits the mean + 2 S and the mean - 2 S; a kind 1 chart has only the upper ones.
@@ -37,7 +41,8 @@
  *     11   no correction is due
  *     12   base and series have fewer than 15 words together
  *     13   the bytes are no stored form (also where *size is more than room)
- *     14   the chart in the bytes is not sound: it was altered by something else; take the last good copy
+ *     14   the chart in the bytes is not sound: it was altered by something else; take the last good copy (an alteration that leaves a
+ *          sound chart is not noticed)
  *     15   a buffer is too short for what goes into it
  *
  * Where more than one applies, the first in the order that stands at the function is answered. A refused call changes nothing: every
@@ -70,7 +75,7 @@ extern "C" {
  * Refuses 1, 5, 6, 7. */
 uint16_t control_chart_word(uint32_t kind, int64_t a, int64_t b, int64_t c, int16_t *word);
 
-/* A new chart from `count` words of one kind. Words beyond the control limits are removed, round by round with the limits of the rest. The
+/* A new chart from `count` words of one kind, as control_chart_word gives them. Words beyond the control limits are removed, round by round with the limits of the rest. The
  * form goes to the front of `chart`; *size: its bytes; *rounds: the rounds, the last of which removes nothing; *removed: how many words they
  * removed. What `chart` and *size held before is not looked at.
  * Refuses 1, 2, 3, 15. */
@@ -91,7 +96,10 @@ uint16_t control_chart_post(uint8_t *chart, size_t room, size_t *size,
                             int16_t *word, uint16_t *verdict);
 
 /* The sample, analysed again. *word, and *passed: 1 where the reanalysis passes; its word then takes the place of the series' last and the
- * chart is free. 0 where it fails; the series stays and a correction is due.
+ * chart is free. 0 where it fails; the series stays and a correction is due. It passes if its word is not beyond a control limit and
+ *     for verdict 2   not beyond a warning limit either;
+ *     for verdict 3   less than S from the mean, or, where the seven words rise (fall), below (above) the series' last word but one;
+ *     for verdict 4   less than S from the mean, or not on the side of the mean on which the seven words are.
  * Refuses 13, 14, 10, 4, 5, 6, 7. */
 uint16_t control_chart_reanalyse(uint8_t *chart, size_t room, size_t *size,
                                  uint32_t kind, int64_t a, int64_t b, int64_t c,
