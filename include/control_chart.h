@@ -13,15 +13,13 @@
  *
  * each to the nearest whole number, halves away from zero.
  *
- * THE CHART is its base, the words that its limits come from, and its series, the words posted since. It is always in its stored form, in a
- * buffer that the caller lends. The form is bytes, the same on every machine: keep them in a file or a database as they are. `room` is the
- * number of bytes of the buffer, and *size that of the form, which stands at its front. Building sets *size; post, reanalyse, correct and
- * renew take it and set it; lines, against_lines and check take the form's size itself. A buffer of CONTROL_CHART_FORM_MOST bytes has room for
- * every chart. Bytes behind the form stay as they are: only the first *size bytes are the chart, to be kept after every call that changes it.
- * To go on with a kept chart, copy its bytes to the front of a buffer, set *size to their number, and ask control_chart_check.
- *
- * A chart is free, or a reanalysis is due, or a correction is due: its status, with the verdict that is open. A chart is sound if its words,
- * status and open verdict are such as the calls leave.
+ * THE CHART is its base, the words that its limits come from, its series, the words posted since, and whether it is free or a reanalysis or
+ * a correction is due for the verdict that is open. It is always in its stored form, in a buffer that the caller lends. The form is bytes, the
+ * same on every machine: keep them in a file or a database as they are. `room` is the number of bytes of the buffer, and *size that of the
+ * form, which stands at its front. Building sets *size; post, reanalyse, correct and renew take it and set it; lines, against_lines and
+ * check take the form's size itself. A buffer of CONTROL_CHART_FORM_MOST bytes has room for every chart. Bytes behind the form stay as they
+ * are: only the first *size bytes are the chart, to be kept after every call that changes it. To go on with a kept chart, copy its bytes to
+ * the front of a buffer, set *size to their number, and ask control_chart_check.
  *
  * THE LIMITS come from the words of the base: their mean and their standard deviation S, with the divisor n - 1. Control limits are the
  * mean + 3 S and the mean - 3 S, warning limits the mean + 2 S and the mean - 2 S; a kind 1 chart has only the upper ones.
@@ -41,8 +39,8 @@
  *     11   no correction is due
  *     12   base and series have fewer than 15 words together
  *     13   the bytes are no stored form (also where *size is more than room)
- *     14   the chart in the bytes is not sound: it was altered by something else; take the last good copy (an alteration that leaves a
- *          sound chart is not noticed)
+ *     14   the chart in the bytes is not sound, as its words, status and verdict do not fit each other: it was altered by something else;
+ *          take the last good copy. An alteration after which they fit is not noticed
  *     15   a buffer is too short for what goes into it
  *
  * Where more than one applies, the first in the order that stands at the function is answered. A refused call changes nothing: every
@@ -75,9 +73,9 @@ extern "C" {
  * Refuses 1, 5, 6, 7. */
 uint16_t control_chart_word(uint32_t kind, int64_t a, int64_t b, int64_t c, int16_t *word);
 
-/* A new chart from `count` words of one kind, as control_chart_word gives them. Words beyond the control limits are removed, round by round with the limits of the rest. The
- * form goes to the front of `chart`; *size: its bytes; *rounds: the rounds, the last of which removes nothing; *removed: how many words they
- * removed. What `chart` and *size held before is not looked at.
+/* A new chart from `count` words of one kind, as control_chart_word gives them. Words beyond the control limits are removed, round by round
+ * with the limits of the rest. The form goes to the front of `chart`; *size: its bytes; *rounds: the rounds, the last of which removes
+ * nothing; *removed: how many words they removed. What `chart` and *size held before is not looked at.
  * Refuses 1, 2, 3, 15. */
 uint16_t control_chart_build(uint32_t kind, const int16_t *words, size_t count,
                              uint8_t *chart, size_t room, size_t *size,
