@@ -1,15 +1,18 @@
-"""Makes the command file and the file of its answers, both from the model, and prints what is met.
+"""Makes the commands of the program control_chart and their answers, both from the model.
 
-python3 make_vectors.py
+python3 make_vectors.py writes nothing; it prints how often each outcome is met.
 """
 
-import os
 import random
 
 import model
 import choices
 from model import Chart
 from choices import Record, exact
+from figures import figures
+
+ASKED = "crates/control_chart/stdin"
+ANSWERED = "crates/control_chart/stdout"
 
 A = (9900,) * 7 + (10100,) * 7 + (10000,)
 C = (10000,) * 7 + (10001,) * 8
@@ -926,6 +929,7 @@ def make():
     rng = random.Random(20240105)
     rec = Record()
     on_zeros(rec)
+    figures(rec)
     words(rec, rng)
     builds(rec, rng)
     course(rec)
@@ -942,20 +946,23 @@ def make():
     return rec
 
 
+def bytes_of(rec):
+    """The commands of a record and their answers, by path."""
+    answered = [answer + b"\n" for answer in rec.answers if answer is not None]
+    return {ASKED: b"".join(rec.lines), ANSWERED: b"".join(answered)}
+
+
+def files():
+    """The files that are made, by their paths from the root of the repository."""
+    return bytes_of(make())
+
+
 def main():
     rec = make()
-    here = os.path.dirname(os.path.abspath(__file__))
-    folder = os.path.join(here, "..", "..", "crates", "control_chart")
-    os.makedirs(folder, exist_ok=True)
-    asked = b"".join(rec.lines)
-    answered = b"".join(answer + b"\n" for answer in rec.answers if answer is not None)
-    with open(os.path.join(folder, "stdin"), "wb") as file:
-        file.write(asked)
-    with open(os.path.join(folder, "stdout"), "wb") as file:
-        file.write(answered)
+    made = bytes_of(rec)
     choices.print_table(rec.table)
     print("lines %d, answers %d, bytes %d and %d" % (
-        len(rec.lines), sum(answer is not None for answer in rec.answers), len(asked), len(answered)))
+        len(rec.lines), sum(answer is not None for answer in rec.answers), len(made[ASKED]), len(made[ANSWERED])))
 
 
 if __name__ == "__main__":

@@ -1,16 +1,192 @@
-"""The figures of document 01 and of its readings, run on the model.
+"""The figures of document 01 and of its readings, on the model and in the files that are made from it.
 
 python3 test_model.py
+
+The numbers here are written by hand from document 01 and its readings, so that a wrong model is told.
 """
 
+import io
+import os
+import re
+import tempfile
+from contextlib import redirect_stderr, redirect_stdout
+from functools import lru_cache
+
+import expected
+import make_vectors
 import model
 from commands import answers_of, lines_of
 from model import Chart
 
 A = (9900,) * 7 + (10100,) * 7 + (10000,)
+B = (1000,) * 14
 C = (10000,) * 7 + (10001,) * 8
 K = (900,) * 7 + (1100,) * 7 + (1000,)
 Z = (1000,) * 15
+
+# Document 01, figures from the course: all cases with their commands and answers. {A}, {B} and {C} stand for words.
+FIGURES = """\
+# duplicate X1 1, X2 2
+word 1 1 2 0 = word 6667
+# duplicate X1 65, X2 63
+word 1 65 63 0 = word 313
+# spike SSR 0, SR 1, SA 32
+word 3 0 1 32 = word -313
+# spike SSR 200004, SR 0, SA 100000
+word 3 200004 0 100000 = word 20000
+# spike SSR 200005, SR 0, SA 100000
+word 3 200005 0 100000 = refused 7
+# A, kind 2
+build 2 {A} = built rounds 1 removed 0
+show = chart kind 2 status 0 verdict 0 base 15 {A} series 0
+# A, lines
+build 2 {A} = built rounds 1 removed 0
+lines = lines 10000.00000000 9800.00000000 10200.00000000 9700.00000000 10300.00000000
+# A, posts 10300
+build 2 {A} = built rounds 1 removed 0
+post 2 10300 10000 0 = word 10300 verdict 0
+show = chart kind 2 status 0 verdict 0 base 15 {A} series 1 10300
+# A, posts 10301
+build 2 {A} = built rounds 1 removed 0
+post 2 10301 10000 0 = word 10301 verdict 1
+show = chart kind 2 status 1 verdict 1 base 15 {A} series 1 10301
+# A, posts 10250 10210
+build 2 {A} = built rounds 1 removed 0
+post 2 10250 10000 0 = word 10250 verdict 0
+post 2 10210 10000 0 = word 10210 verdict 2
+show = chart kind 2 status 1 verdict 2 base 15 {A} series 2 10250 10210
+# A, posts 10250 9790
+build 2 {A} = built rounds 1 removed 0
+post 2 10250 10000 0 = word 10250 verdict 0
+post 2 9790 10000 0 = word 9790 verdict 0
+show = chart kind 2 status 0 verdict 0 base 15 {A} series 2 10250 9790
+# A, posts 9950 up to 10010 by tens
+build 2 {A} = built rounds 1 removed 0
+post 2 9950 10000 0 = word 9950 verdict 0
+post 2 9960 10000 0 = word 9960 verdict 0
+post 2 9970 10000 0 = word 9970 verdict 0
+post 2 9980 10000 0 = word 9980 verdict 0
+post 2 9990 10000 0 = word 9990 verdict 0
+post 2 10000 10000 0 = word 10000 verdict 0
+post 2 10010 10000 0 = word 10010 verdict 3
+show = chart kind 2 status 1 verdict 3 base 15 {A} series 7 9950 9960 9970 9980 9990 10000 10010
+# A after 9950 up to 10010: 9995
+read {UP} = read
+reanalyse 2 9995 10000 0 = word 9995 passed
+show = chart kind 2 status 0 verdict 0 base 15 {A} series 7 9950 9960 9970 9980 9990 10000 9995
+# A, posts 10010 up to 10070 by tens
+build 2 {A} = built rounds 1 removed 0
+post 2 10010 10000 0 = word 10010 verdict 0
+post 2 10020 10000 0 = word 10020 verdict 0
+post 2 10030 10000 0 = word 10030 verdict 0
+post 2 10040 10000 0 = word 10040 verdict 0
+post 2 10050 10000 0 = word 10050 verdict 0
+post 2 10060 10000 0 = word 10060 verdict 0
+post 2 10070 10000 0 = word 10070 verdict 3
+show = chart kind 2 status 1 verdict 3 base 15 {A} series 7 10010 10020 10030 10040 10050 10060 10070
+# C, lines
+build 2 {C} = built rounds 1 removed 0
+lines = lines 10000.53125000 9999.50390625 10001.56250000 9998.98437500 10002.08203125
+# 1000 fourteen times and 2000, kind 1
+build 1 {B} 2000 = built rounds 2 removed 1
+show = chart kind 1 status 0 verdict 0 base 14 {B} series 0
+# 1000 fourteen times and 2000, kind 1, lines
+build 1 {B} 2000 = built rounds 2 removed 1
+lines = lines 1000.00000000 1000.00000000 1000.00000000
+# 1000 fourteen times and 2000, posts 1001
+build 1 {B} 2000 = built rounds 2 removed 1
+post 1 21001 18999 0 = word 1001 verdict 1
+show = chart kind 1 status 1 verdict 1 base 14 {B} series 1 1001
+# 4135 seven times and 10000 eight times, 48 bytes lent (kind 2)
+build 2 4135 4135 4135 4135 4135 4135 4135 10000 10000 10000 10000 10000 10000 10000 10000 = built rounds 1 removed 0
+write = bytes 48 080001000200000000002000020027102710271027102710271027101027102710271027102710271027102702000300
+"""
+
+# The stored form of A after 9950 up to 10010 with status 1 and verdict 3: head, base, series.
+UP = ("08000100020001000300"
+      "20000200" + "ac26" * 7 + "7427" * 7 + "1027"
+      "10000300" + "de26" "e826" "f226" "fc26" "0627" "1027" "1a27")
+
+# Document 01, numbers for what is declined: the example of each number that a command can meet.
+EXAMPLES = {
+    "kind 4 (a word formed alone)": 1,
+    "14 words (kind 2, 10000 each)": 2,
+    "-1 fifteen times, kind 1": 3,
+    "K, post of a spike": 4,
+    "duplicate X1 1000000001, X2 0": 5,
+    "duplicate X1 0, X2 0": 6,
+    "spike SSR 300, SR 0, SA 100": 7,
+    "A after 10250 10301, post of X 10000, A 10000": 8,
+    "A after that, post of X 10000 (that: 366 words, the last reanalysed)": 9,
+    "A, reanalysis of X 10000, A 10000": 10,
+    "A, correction": 11,
+    "1000 fourteen times and 2000, renewal": 12,
+    "A, the first 0 bytes": 13,
+    "status 3": 14,
+}
+
+# The readings: the last answer of each example in them that a command can meet, without that of `show`.
+READINGS = {
+    1: {"duplicate X1 1, X2 2, third number -5": "word 6667", "check X 1000000001, A 0": "refused 5"},
+    2: {"duplicate X1 0, X2 0": "refused 6", "check X 0, A 0": "refused 6", "spike SSR 5, SR 5, SA 0": "refused 6"},
+    3: {"spike SSR 0, SR 1, SA 20000": "word -1", "spike SSR 1, SR 0, SA 20000": "word 1"},
+    4: {"spike SSR 200004, SR 0, SA 100000": "word 20000", "A, post of X 20001, A 10000": "refused 7",
+        "A after 10250 10301, reanalysis of X 30000, A 10000": "refused 7"},
+    5: {"kind 0 (a word formed alone)": "refused 1", "kind 0, no word": "refused 1", "A, post of kind 0": "refused 4",
+        "A, post of kind 4": "refused 4", "A, reanalysis of kind 4": "refused 10",
+        "A after 10250 10301, post of kind 4": "refused 8", "A after 10250 10301, reanalysis of kind 0": "refused 4",
+        "A after 10250 10301, reanalysis of kind 4": "refused 4"},
+    6: {"A after that, posts 10301 (that: 365 words)": "word 10301 verdict 1",
+        "A after that, post of kind 4 (that: 366 words, the last 10301)": "refused 8",
+        "A after that: 10000 (that: 366 words, the last 10301)": "word 10000 passed",
+        "A after that, post of kind 4 (that: 366 words, the last reanalysed)": "refused 9"},
+    7: {"-1 fifteen times, kind 2": "built rounds 1 removed 0",
+        "-1 fifteen times and a series of -1, kind 2, read": "read"},
+    8: {"A, posts 10250 9790": "word 9790 verdict 0", "K, posts 0": "word 0 verdict 0"},
+    9: {"1000 fourteen times and 0, kind 1": "built rounds 1 removed 0",
+        "1000 fourteen times and 0, kind 2": "built rounds 2 removed 1", "K, posts 790 790": "word 790 verdict 0",
+        "K after 1301: 0": "word 0 passed", "K after 1210 1210: 790": "word 790 passed",
+        "1000 fourteen times and 0, chart kind 1": "read", "1000 fourteen times and 0, chart kind 2": "refused 14"},
+    10: {"K after 1010 down to 950: 800": "word 800 failed", "K after 1010 down to 950: 961": "word 961 passed",
+         "Z, posts 100 up to 700 by hundreds": "word 700 verdict 3", "Z after 100 up to 700: 1000": "word 1000 failed",
+         "Z after 100 up to 700: 600": "word 600 failed", "Z after 100 up to 700: 599": "word 599 passed"},
+    11: {"10000 and 10001 thirteen times, 10050, 10051, kind 2": "built rounds 2 removed 2"},
+    12: {"0 ten times, 1, 12, 144, 1728, 20000, kind 1": "built rounds 6 removed 5"},
+    14: {"A, posts 10100 and 9950 up to 10010 by tens": "word 10010 verdict 3",
+         "A after 9950 up to 10010: 10010": "word 10010 passed",
+         "A after that, posts 10020 (that: 9950 up to 10010, reanalysis 10010)": "word 10020 verdict 3"},
+    15: {"A after 9950 up to 10010: 9600": "word 9600 failed", "A after 9950 up to 10010: 10100": "word 10100 failed",
+         "A after 9950 up to 10010: 10099": "word 10099 passed",
+         "A after that: 9600 (that: 10150 seven times, correction)": "word 9600 failed",
+         "A after that: 9700 (that: 10150 seven times, correction)": "word 9700 passed",
+         "A after that: 10100 (that: 10150 seven times, correction)": "word 10100 failed",
+         "A after that: 10099 (that: 10150 seven times, correction)": "word 10099 passed"},
+    16: {"A after 10110 up to 10170: 10160": "word 10160 failed",
+         "A after 10110 up to 10170: 10159": "word 10159 passed"},
+    17: {"A after 10250 10210: 9790": "word 9790 failed", "A after 10250 10210: 9800": "word 9800 passed"},
+    18: {"A after 10250 10301: 10250": "word 10250 passed",
+         "A with the series 10250 10250, read (the form just written)": "read"},
+    19: {"A after 10250 10301 with status 2, correction": "corrected",
+         "A after 10150 seven times with status 1: 10000": "word 10000 passed"},
+    20: {"A after that, renewal (that: 10290 and 10000 fourteen times)": "renewed rounds 2 removed 1",
+         "1000 fourteen times and 2000, renewal": "refused 12",
+         "1000 fourteen times and 2000 after that, renewal (that: 999)": "renewed rounds 1 removed 0"},
+    21: {"chart kind 0, the first 49 bytes": "refused 13", "first length 0": "refused 13",
+         "first length 1": "refused 13", "first length 9": "refused 13", "first length 65535": "refused 13",
+         "head of two numbers": "refused 13", "head of four numbers": "refused 13", "chart kind 0": "refused 14",
+         "chart kind 4": "refused 14", "status 256": "refused 14", "chart kind 257": "refused 14",
+         "first base word 45535 (-20001 as a word)": "refused 14",
+         "K, first base word 65535 (-1 as a word)": "refused 14"},
+    22: {"A after 10250 10000, first series word 10301": "refused 14",
+         "A, series 10301 10301, status 1, verdict 1": "refused 14"},
+    24: {"chart of zeros, lines": "refused 14"},
+    25: {"A, write": "bytes 48 0800010002000000000020000200" + "ac26" * 7 + "7427" * 7 + "1027" + "02000300"},
+    26: {"N, lines": "lines -0.46875000 -1.49609375 0.56250000 -2.01562500 1.08203125",
+         "P, lines": "lines 0.46484375 -0.56250000 1.49609375 -1.08203125 2.01562500"},
+    27: {"Q, lines": "lines 2.52343750 0.00000000 5.05078125 -1.26171875 6.31640625"},
+    28: {"W, lines": "lines 0.00000000 -40640.03906250 40640.03906250 -60960.05859375 60960.05859375"},
+    32: {"A, posts 10301": "word 10301 verdict 1", "1000 fourteen times and 2000, posts 1001": "word 1001 verdict 1"},
+}
 
 PASSED = 0
 
@@ -264,9 +440,131 @@ def test_commands():
     same(answers_of(b"build 3" + b" -1" * 7 + b" 0" * 8 + b"\nlines")[1].split()[1], b"-0.46875000")
 
 
+@lru_cache(maxsize=None)
+def made_files():
+    """The made files."""
+    return make_vectors.files()
+
+
+def block_of(files):
+    """The block of figures in the made files: each line of text, with its commands and their answers."""
+    asked = files["crates/control_chart/stdin"].decode("latin-1").split("\n")
+    answers = iter(files["crates/control_chart/stdout"].decode("ascii").split("\n"))
+    texts = []
+    for line in asked[:asked.index("# words formed alone")]:
+        if line.startswith("# "):
+            texts.append((line[2:], []))
+        elif line:
+            texts[-1][1].append((line, next(answers)))
+    first = [text for text, _ in texts].index("== The figures of document 01 and the cases of its readings")
+    return texts[first:]
+
+
+def cases_in(text):
+    """The cases of a text as FIGURES is."""
+    cases = []
+    for line in text.split("\n")[:-1]:
+        if line.startswith("# "):
+            cases.append((line[2:], []))
+        else:
+            cases[-1][1].append(tuple(line.split(" = ")))
+    return cases
+
+
+def last_answer(steps):
+    """The last answer that is not that of `show`."""
+    return [answer for command, answer in steps if command != "show"][-1]
+
+
+def test_made():
+    """The made files: their paths, and the answers to the commands, read from their bytes."""
+    files = made_files()
+    same(sorted(files), ["crates/control_chart/stdin", "crates/control_chart/stdout"])
+    answers = answers_of(files["crates/control_chart/stdin"])
+    same(b"".join(answer + b"\n" for answer in answers if answer is not None) == files["crates/control_chart/stdout"],
+         True)
+
+
+def test_block():
+    """The block of figures: each case once, and a heading for every reading that a command can meet."""
+    texts = block_of(made_files())
+    labels = [text for text, steps in texts if steps]
+    headings = [text for text, steps in texts if not steps]
+    same([label for label in labels if labels.count(label) > 1], [])
+    same(len(labels), 307)
+    found = {int(number) for heading in headings
+             for numbers in re.findall(r"READINGS (\d+(?:, \d+)*)", heading) for number in numbers.split(", ")}
+    # 13, 23 and 29 to 31 are about definitions, chart values handed in, the type of the lines, and lists.
+    same(sorted(found), [number for number in range(1, 33) if number not in (13, 23, 29, 30, 31)])
+    same(sorted(READINGS), sorted(found))
+
+
+def test_figures():
+    """Figures from the course, in the made files: label, commands and answers."""
+    block = dict(block_of(made_files()))
+    words = {name: " ".join(map(str, base)) for name, base in (("A", A), ("B", B), ("C", C))}
+    for label, steps in cases_in(FIGURES.format(UP=UP, **words)):
+        same((label, block.get(label)), (label, steps))
+    lines = last_answer(block["C, lines"]).split()[1:]
+    same(sorted(256 * float(line) for line in lines), [2559740, 2559873, 2560136, 2560400, 2560533])
+
+
+def test_examples():
+    """Numbers for what is declined, and the readings, in the made files."""
+    block = dict(block_of(made_files()))
+    for label, number in EXAMPLES.items():
+        same((label, last_answer(block[label])), (label, "refused %d" % number))
+    for number, answers in READINGS.items():
+        for label, answer in answers.items():
+            same((number, label, last_answer(block[label])), (number, label, answer))
+    # Reading 4: the status is still 1. Reading 18: the status is 0. Reading 19: the verdict stays.
+    for label, status, verdict in (("A after 10250 10301, reanalysis of X 30000, A 10000", 1, 1),
+                                   ("A after 10250 10301: 10250", 0, 0),
+                                   ("A after that: 10302 (that: 10250 10301)", 2, 1),
+                                   ("A after 10150 seven times, correction", 1, 4)):
+        same(block[label][-1][1].split()[3:7], ["status", str(status), "verdict", str(verdict)])
+
+
+def said(function, *given):
+    """What a function gives, and what it prints."""
+    with redirect_stdout(io.StringIO()) as out, redirect_stderr(io.StringIO()) as errors:
+        given_back = function(*given)
+    return given_back, out.getvalue(), errors.getvalue()
+
+
+def test_expected():
+    """The driver: what differs is found, named and cut; nothing is written by a check."""
+    same(expected.difference(b"a\nb\n", b"a\nb\n"), None)
+    same(expected.difference(b"a\nb\n", b"a\nc\n"), (2, r"'b\n'", r"'c\n'"))
+    same(expected.difference(b"a\nb\n", b"a\nb"), (2, r"'b\n'", "'b'"))
+    same(expected.difference(b"a\nb\r\n", b"a\nb\n"), (2, r"'b\r\n'", r"'b\n'"))
+    same(expected.difference(b"a\nb\n", b"a\n"), (2, r"'b\n'", "the end of the file"))
+    same(expected.difference(b"", b"a\n"), (1, "the end of the file", r"'a\n'"))
+    long_line = b"x" * 300
+    same(expected.difference(long_line + b"y" * 300, long_line + b"z" * 300),
+         (1, ".. '%s%s' .." % ("x" * 40, "y" * 60), ".. '%s%s' .." % ("x" * 40, "z" * 60)))
+    files = {"one/file": b"a\nb\n", "file": b""}
+    with tempfile.TemporaryDirectory() as root:
+        same(said(expected.check, files, root)[:2],
+             (1, "one/file is missing\nfile is missing\n2 of 2 files are not as the model makes them\n"))
+        same(os.listdir(root), [])
+        said(expected.write, files, root)
+        same(said(expected.check, files, root)[:2], (0, "2 files are as the model makes them\n"))
+        with open(os.path.join(root, "one", "file"), "wb") as file:
+            file.write(b"a\nB\n")
+        same(said(expected.check, files, root)[:2],
+             (1, "one/file differs at line 2\n  expected 'b\\n'\n  found    'B\\n'\n"
+                 "1 of 2 files are not as the model makes them\n"))
+    for arguments in (["--chek"], ["--check", "--check"], [""]):
+        same(said(expected.main, arguments), (2, "", "usage: python3 tests/model/expected.py [--check]\n"))
+    same(sorted(expected.made()), ["crates/cases/stdout", "crates/control_chart/stdin", "crates/control_chart/stdout",
+                                   "tests/clients/calls.txt"])
+
+
 def main():
     for test in (test_words, test_building, test_verdicts, test_reanalysis, test_order,
-                 test_stored_form, test_lines, test_commands):
+                 test_stored_form, test_lines, test_commands, test_made, test_block, test_figures,
+                 test_examples, test_expected):
         test()
     print("%d passed, 0 failed" % PASSED)
 

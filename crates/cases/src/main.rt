@@ -1,0 +1,33 @@
+// Runs what no command of `control_chart` can express, and says what comes: charts handed in that no call gives, lent buffers, a chart
+// written and read back, words against a chart's lines, and whole lists of calls. `tests/model` makes the file `stdout` that it is
+// compared with. Functions here only say something, of which no contract can speak.
+mod against;
+mod forms;
+mod handed_in;
+mod listed;
+mod say;
+
+use chart::Chart;
+
+fn main() {
+    // The course's base A, of kind 2: mean 10000, S 100.
+    let mut words = [9900; 15];
+    fill(&mut words, 7, 10100);
+    words[14] = 10000;
+    let built = Chart::build(2, &words);
+    let a = built.chart;
+    handed_in::charts_handed_in(a);
+    forms::stored_forms(a);
+    against::words_against_lines(a);
+    listed::lists_run(a, &words);
+    forms::refused_starts(&words);
+}
+
+// Puts the word into every place from one on.
+pub fn fill(words: &mut [i16], from: usize, word: i16) {
+    let mut i = from;
+    while i < words.len() {
+        words[i] = word;
+        i += 1;
+    }
+}

@@ -1,0 +1,55 @@
+// Parts of a line, to standard output.
+use chart::Chart;
+
+pub fn text(bytes: &[u8]) {
+    io::write_all(libc::STDOUT_FILENO, bytes);
+}
+
+// The text at the front of a buffer. `replies` and `printing` answer its size, which is never more than the buffer's.
+pub fn front(out: &[u8], size: usize) {
+    if size <= out.len() {
+        text(&out[..size]);
+    }
+}
+
+pub fn signed(z: i64) {
+    let mut out = [0u8; 20];
+    let size = printing::numbers::put_signed(&mut out, 0, z);
+    front(&out, size);
+}
+
+// A number behind its name.
+pub fn named(name: &[u8], n: u64) {
+    text(name);
+    let mut out = [0u8; 20];
+    let size = printing::numbers::put_decimal(&mut out, 0, n);
+    front(&out, size);
+}
+
+pub fn refusal(n: u16) {
+    let mut out = [0u8; 64];
+    let size = replies::put_refusal(&mut out, n);
+    front(&out, size);
+}
+
+// Each word behind a blank.
+pub fn words(name: &[u8], list: &[i16]) {
+    text(name);
+    let mut out = [0u8; 4096];
+    let size = printing::numbers::put_words(&mut out, 0, list);
+    front(&out, size);
+}
+
+pub fn status(chart: Chart) {
+    named(b", status ", chart.status as u64);
+    named(b" verdict ", chart.open_verdict as u64);
+}
+
+// Kind, lengths, status and open verdict.
+pub fn numbers(chart: Chart) {
+    named(b"kind ", chart.kind as u64);
+    named(b" base ", chart.base_len as u64);
+    named(b" series ", chart.series_len as u64);
+    named(b" status ", chart.status as u64);
+    named(b" verdict ", chart.open_verdict as u64);
+}

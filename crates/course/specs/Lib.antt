@@ -1,3 +1,0 @@
-pub mod Course
-pub mod Forms
-pub mod Runs

@@ -1,0 +1,537 @@
+"""The figures of document 01 and the cases of its readings, as commands. A line of text stands above each case.
+
+A section is a tuple. A text in it is a heading. A tuple in it is a case: its label, then its commands. Where a label
+needs more, the rest stands in brackets at its end. A case goes on from the chart as it stands if it begins with
+neither `build` nor `read`.
+"""
+
+from itertools import groupby
+
+import model
+from choices import exact
+from model import Chart
+
+# Bases with a letter: kind and words.
+A = 2, (9900,) * 7 + (10100,) * 7 + (10000,)
+C = 2, (10000,) * 7 + (10001,) * 8
+D = 1, (1000,) * 7 + (1001,) * 8
+E = 3, (10000,) * 3 + (10002,) * 9 + (10003,) * 5
+F = 3, (10000,) * 2 + (10001,) * 8 + (10002,) * 9
+G = 1, (0,) * 7 + (1,) * 5 + (2,) * 13
+H = 2, (20000,) * 7 + (-20000,) * 3
+K = 1, (900,) * 7 + (1100,) * 7 + (1000,)
+M = 3, (-10000,) * 7 + (-10001,) * 8
+N = 3, (-1,) * 7 + (0,) * 8
+P = 3, (1,) * 7 + (0,) * 8
+Q = 3, (0,) * 2 + (1,) + (2,) * 6 + (3,) * 5 + (4,) * 5
+T = 1, (0,) * 15
+W = 2, (-20000,) * 16 + (20000,) * 16
+Z = 1, (1000,) * 15
+LETTERS = {"A": A, "C": C, "D": D, "E": E, "F": F, "G": G, "H": H, "K": K, "M": M, "N": N, "P": P, "Q": Q, "T": T,
+           "W": W, "Z": Z}
+
+# Words for other bases.
+HIGH = (1000,) * 14 + (2000,)
+LOW = (1000,) * 14 + (0,)
+TWO_OUT = (10000,) * 13 + (10001,) * 13 + (10050, 10051)
+FIVE_OUT = (0,) * 10 + (1, 12, 144, 1728, 20000)
+SWAPPED = (4135,) * 7 + (10000,) * 8
+
+# Series.
+UP = range(9950, 10011, 10)
+DOWN = range(10050, 9989, -10)
+UP_ABOVE = range(10010, 10071, 10)
+UP_FAR = range(10110, 10171, 10)
+K_DOWN = range(1010, 949, -10)
+Z_UP = range(100, 701, 100)
+
+# Charts that cases start from.
+FRESH = Chart(*A, (), 0, 0)
+AFTER_UP = Chart(*A, tuple(UP), 1, 3)
+AFTER_UP_FAR = Chart(*A, tuple(UP_FAR), 1, 3)
+AFTER_TWO = Chart(*A, (10250, 10210), 1, 2)
+AFTER_OUT = Chart(*A, (10250, 10301), 1, 1)
+AFTER_SIDE = Chart(*A, (10150,) * 7, 2, 4)
+CORRECTED = AFTER_SIDE._replace(status=1)
+K_AFTER_DOWN = Chart(*K, tuple(K_DOWN), 1, 3)
+Z_AFTER_UP = Chart(*Z, tuple(Z_UP), 1, 3)
+
+NAMES = ("three", "four", "five", "six", "seven", "eight", "nine", "ten", "eleven", "twelve", "thirteen", "fourteen",
+         "fifteen", "sixteen")
+TIMES = ("", " twice") + tuple(" %s times" % name for name in NAMES)
+
+# Commands after which nothing need be shown: they leave the chart as it is.
+LOOKING = ("word", "lines", "write", "show")
+
+
+# Commands
+
+def build(base):
+    """A build of kind and words."""
+    kind, words = base
+    return " ".join(map(str, ("build", kind, *words)))
+
+
+def read(stored):
+    """A read of bytes, or of a chart, sound or not."""
+    data = model.stored_form(stored) if isinstance(stored, Chart) else stored
+    return ("read " + data.hex()).rstrip()
+
+
+def call(name, kind, word):
+    """A post or a reanalysis with a word."""
+    return " ".join(map(str, (name, kind, *exact(kind, word))))
+
+
+def posts(kind, words):
+    """A post of each word."""
+    return tuple(call("post", kind, word) for word in words)
+
+
+def posted(base, *words):
+    """A build, and a post of each word."""
+    return (build(base), *posts(base[0], words))
+
+
+def reanalysed(chart, word):
+    """A read of a chart, and a reanalysis with a word."""
+    return read(chart), call("reanalyse", chart.kind, word)
+
+
+# Stored forms
+
+A_FORM = model.stored_form(FRESH)
+A_LONG = A_FORM + bytes(16)
+TEN_RECORDS = {"head": model.record(1, (2, 0, 0)), "base": model.record(2, (1000,) * 10),
+               "series": model.record(3, ())}
+
+
+def changed(data, place, number):
+    """A stored form with another number at a place."""
+    return data[:place] + model.two_bytes(number) + data[place + 2:]
+
+
+def edits(front, chart, places):
+    """Cases: the stored form of a chart with one number changed, for each place and number."""
+    for name, place, numbers in places:
+        for number in numbers:
+            label = "%s%s %d" % (front, name, number)
+            if "word" in name and number > 32767:
+                label += " (%d as a word)" % model.signed(number)
+            yield label, read(changed(model.stored_form(chart), place, number))
+
+
+def first_bytes(front, data, sizes):
+    """Cases: the first bytes of a stored form and of what follows it."""
+    return [("%s, the first %d bytes" % (front, size), read(data[:size])) for size in sizes]
+
+
+def sizes_form(base_size, series_size):
+    """A stored form of kind 2 with so many words of 1000."""
+    return model.stored_form(Chart(2, (1000,) * base_size, (1000,) * series_size, 0, 0))
+
+
+def in_order(names):
+    """A case: records in this order."""
+    return names, read(b"".join(TEN_RECORDS[name] for name in names.split()))
+
+
+def exchanged(data, first, end):
+    """A stored form in which the two bytes of each number from a place to another are exchanged."""
+    pairs = [bytes((data[place + 1], data[place])) for place in range(first, end, 2)]
+    return data[:first] + b"".join(pairs) + data[end:]
+
+
+# Sections
+
+BEFORE = (
+    "READINGS 24: a call on the chart of zeros is refused with 14, and the chart stays as it is",
+    ("chart of zeros, lines", "lines"),
+    ("chart of zeros, write", "write"),
+    ("chart of zeros, post of X 10000, A 10000", "post 2 10000 10000 0"),
+    ("chart of zeros, reanalysis of X 10000, A 10000", "reanalyse 2 10000 10000 0"),
+    ("chart of zeros, correction", "correct"),
+    ("chart of zeros, renewal", "renew"),
+)
+
+WORDS = (
+    "document 01, figures: words",
+    ("duplicate X1 1, X2 2", "word 1 1 2 0"),
+    ("duplicate X1 65, X2 63", "word 1 65 63 0"),
+    ("spike SSR 0, SR 1, SA 32", "word 3 0 1 32"),
+    "document 01, figures, READINGS 4: the range is tested after rounding",
+    ("spike SSR 200004, SR 0, SA 100000", "word 3 200004 0 100000"),
+    ("spike SSR 200005, SR 0, SA 100000", "word 3 200005 0 100000"),
+    ("spike SSR 0, SR 200004, SA 100000", "word 3 0 200004 100000"),
+    ("spike SSR 0, SR 200005, SA 100000", "word 3 0 200005 100000"),
+    "document 01, from readings to words: 41.35 percent",
+    ("check X 4135, A 10000", "word 2 4135 10000 0"),
+    "READINGS 1: kinds 1 and 2 ignore the third number, for refusal 5 too; 5 comes before 6",
+    ("duplicate X1 1, X2 2, third number -5", "word 1 1 2 -5"),
+    ("check X 1, A 2, third number -5", "word 2 1 2 -5"),
+    ("spike SSR 1, SR 0, SA -5", "word 3 1 0 -5"),
+    ("check X 1000000001, A 0", "word 2 1000000001 0 0"),
+    "READINGS 2: a divisor of 0 is refused with 6, even where the numerator is 0",
+    ("duplicate X1 0, X2 0", "word 1 0 0 0"),
+    ("check X 0, A 0", "word 2 0 0 0"),
+    ("check X 1, A 0", "word 2 1 0 0"),
+    ("spike SSR 5, SR 5, SA 0", "word 3 5 5 0"),
+    ("spike SSR 5, SR 3, SA 0", "word 3 5 3 0"),
+    "READINGS 3: halves go away from zero on both sides",
+    ("spike SSR 0, SR 1, SA 20000", "word 3 0 1 20000"),
+    ("spike SSR 1, SR 0, SA 20000", "word 3 1 0 20000"),
+    ("spike SSR 0, SR 1, SA 20001", "word 3 0 1 20001"),
+    ("spike SSR 1, SR 0, SA 20001", "word 3 1 0 20001"),
+    "document 01, numbers for what is declined, READINGS 5: a word formed alone",
+    ("kind 0 (a word formed alone)", "word 0 1 2 3"),
+    ("kind 4 (a word formed alone)", "word 4 1 2 3"),
+    ("duplicate X1 1000000001, X2 0", "word 1 1000000001 0 0"),
+    ("check X -1, A 1", "word 2 -1 1 0"),
+    ("spike SSR 300, SR 0, SA 100", "word 3 300 0 100"),
+)
+
+CHARTS = (
+    "document 01, figures, READINGS 11: A has one round, since nothing is removed",
+    ("A, kind 2", build(A)),
+    "document 01, figures: of 1000 fourteen times and 2000, 2000 is removed; two rounds, a base of 14, S = 0",
+    ("1000 fourteen times and 2000, kind 1", build((1, HIGH))),
+    ("1000 fourteen times and 2000, kind 1, lines", build((1, HIGH)), "lines"),
+    "READINGS 7: kind 2 takes words below 0; words out of range are refused with 3",
+    ("-1 fifteen times, kind 2", build((2, (-1,) * 15))),
+    ("-1 fifteen times, kind 1", build((1, (-1,) * 15))),
+    ("20001 fifteen times, kind 3", build((3, (20001,) * 15))),
+    ("-20000 fifteen times, kind 3", build((3, (-20000,) * 15))),
+    "READINGS 9: kind 1 has no lower limit in rejection",
+    ("1000 fourteen times and 0, kind 1", build((1, LOW))),
+    ("1000 fourteen times and 0, kind 2", build((2, LOW))),
+    "READINGS 11: the words of a round are removed together",
+    ("10000 and 10001 thirteen times, 10050, 10051, kind 2", build((2, TWO_OUT))),
+    "READINGS 12: rejection can leave ten words, and no fewer",
+    ("0 ten times, 1, 12, 144, 1728, 20000, kind 1", build((1, FIVE_OUT))),
+    "document 01, numbers for what is declined: build",
+    ("14 words (kind 2, 10000 each)", build((2, (10000,) * 14))),
+    ("14 words of 20001 (kind 2)", build((2, (20001,) * 14))),
+    ("32 words (kind 2, 10000 each)", build((2, (10000,) * 32))),
+    ("33 words (kind 2, 10000 each)", build((2, (10000,) * 33))),
+    ("kind 0, no word", build((0, ()))),
+    ("kind 4 (a build from 10000 fifteen times)", build((4, (10000,) * 15))),
+)
+
+POSTS = (
+    "document 01, figures, READINGS 32: on a fresh A a word on the control limit is 0, one beyond it is 1",
+    ("A, posts 10300", *posted(A, 10300)),
+    ("A, posts 10301", *posted(A, 10301)),
+    ("A, posts 9700", *posted(A, 9700)),
+    ("A, posts 9699", *posted(A, 9699)),
+    "document 01, figures, READINGS 8: two words beyond the warning limit on the same side are 2",
+    ("A, posts 10250 10210", *posted(A, 10250, 10210)),
+    ("A, posts 10250 9790", *posted(A, 10250, 9790)),
+    ("A, posts 9750 9790", *posted(A, 9750, 9790)),
+    ("A, posts 10200 10210", *posted(A, 10200, 10210)),
+    ("A, posts 10210 10200", *posted(A, 10210, 10200)),
+    "document 01, figures: seven words that rise or fall strictly are 3, though 4 applies too",
+    ("A, posts 9950 up to 10010 by tens", *posted(A, *UP)),
+    ("A, posts 10010 up to 10070 by tens", *posted(A, *UP_ABOVE)),
+    ("A, posts 10050 down to 9990 by tens", *posted(A, *DOWN)),
+    "document 01, mistakes that look reasonable: equal neighbours continue no trend, and six words are none",
+    ("A, posts 9950 up to 10000 by tens and 10000", *posted(A, *UP[:6], 10000)),
+    ("A, posts 9950 up to 10000 by tens", *posted(A, *UP[:6])),
+    "READINGS 14: the word before the seven plays no part",
+    ("A, posts 10100 and 9950 up to 10010 by tens", *posted(A, 10100, *UP)),
+    "document 01, the machine: seven words strictly on one side of the mean are 4",
+    ("A, posts 10150 seven times", *posted(A, *[10150] * 7)),
+    ("A, posts 9850 seven times", *posted(A, *[9850] * 7)),
+    ("A, posts 10000 seven times", *posted(A, *[10000] * 7)),
+    "document 01, mistakes that look reasonable: S is not rounded before it is tripled",
+    ("C, posts 10002", *posted(C, 10002)),
+    ("C, posts 10003", *posted(C, 10003)),
+    ("C, posts 9999", *posted(C, 9999)),
+    ("C, posts 9998", *posted(C, 9998)),
+    "document 01, figures, READINGS 32: where S is 0, a word above the mean is 1",
+    ("1000 fourteen times and 2000, posts 1001", *posted((1, HIGH), 1001)),
+    ("1000 fourteen times and 2000, posts 1000 1001", *posted((1, HIGH), 1000, 1001)),
+    "READINGS 8: far away on the side without a limit is not beyond",
+    ("K, posts 1301", *posted(K, 1301)),
+    ("K, posts 0", *posted(K, 0)),
+    "READINGS 9: kind 1 has no lower warning limit, and no verdict 4",
+    ("K, posts 790 790", *posted(K, 790, 790)),
+    ("K, posts 1210 1210", *posted(K, 1210, 1210)),
+    ("K, posts 1050 seven times", *posted(K, *[1050] * 7)),
+    "READINGS 10: trends on K and on Z",
+    ("K, posts 1010 down to 950 by tens", *posted(K, *K_DOWN)),
+    ("Z, posts 100 up to 700 by hundreds", *posted(Z, *Z_UP)),
+)
+
+REANALYSIS = (
+    "document 01, figures: 9995 passes",
+    ("A after 9950 up to 10010: 9995", *reanalysed(AFTER_UP, 9995)),
+    "READINGS 15: for verdict 3 the word must also be within the control limits; near the mean is strict",
+    ("A after 9950 up to 10010: 9600", *reanalysed(AFTER_UP, 9600)),
+    ("A after 9950 up to 10010: 10100", *reanalysed(AFTER_UP, 10100)),
+    ("A after 9950 up to 10010: 10099", *reanalysed(AFTER_UP, 10099)),
+    "READINGS 14: 10010 passes since it is near the mean, and the next post is 3 again",
+    ("A after 9950 up to 10010: 10010", *reanalysed(AFTER_UP, 10010)),
+    ("A after that, posts 10020 (that: 9950 up to 10010, reanalysis 10010)", *posts(2, [10020])),
+    "READINGS 16: the word must be strictly below the one before the last",
+    ("A, posts 10110 up to 10170 by tens", *posted(A, *UP_FAR)),
+    ("A after 10110 up to 10170: 10160", *reanalysed(AFTER_UP_FAR, 10160)),
+    ("A after 10110 up to 10170: 10159", *reanalysed(AFTER_UP_FAR, 10159)),
+    "READINGS 17: for verdict 2 neither warning limit may be passed",
+    ("A, posts 10250 10210 (the start of the reanalyses that follow)", *posted(A, 10250, 10210)),
+    ("A after 10250 10210: 9790", *reanalysed(AFTER_TWO, 9790)),
+    ("A after 10250 10210: 9800", *reanalysed(AFTER_TWO, 9800)),
+    ("A after 10250 10210: 10201", *reanalysed(AFTER_TWO, 10201)),
+    ("A after 10250 10210: 10200", *reanalysed(AFTER_TWO, 10200)),
+    "READINGS 9: kind 1 has no lower limit in reanalysis",
+    ("K after 1301: 0", *reanalysed(Chart(*K, (1301,), 1, 1), 0)),
+    ("K after 1210 1210: 790", *reanalysed(Chart(*K, (1210, 1210), 1, 2), 790)),
+    "READINGS 10: near the mean is two-sided for kind 1 too, is strict, and is never true where S is 0",
+    ("K after 1010 down to 950: 800", *reanalysed(K_AFTER_DOWN, 800)),
+    ("K after 1010 down to 950: 900", *reanalysed(K_AFTER_DOWN, 900)),
+    ("K after 1010 down to 950: 961", *reanalysed(K_AFTER_DOWN, 961)),
+    ("Z after 100 up to 700: 1000", *reanalysed(Z_AFTER_UP, 1000)),
+    ("Z after 100 up to 700: 600", *reanalysed(Z_AFTER_UP, 600)),
+    ("Z after 100 up to 700: 599", *reanalysed(Z_AFTER_UP, 599)),
+)
+
+CORRECTION = (
+    "READINGS 19: a correction changes the status alone; status 1 with verdict 4 is sound",
+    ("A after 10150 seven times: 10000", *reanalysed(AFTER_SIDE, 10000)),
+    ("A after 10150 seven times, correction", read(AFTER_SIDE), "correct"),
+    ("A after that, correction again (that: 10150 seven times, correction)", "correct"),
+    "READINGS 15: for verdict 4 the word must also be within the control limits",
+    ("A after that: 9600 (that: 10150 seven times, correction)", *reanalysed(CORRECTED, 9600)),
+    ("A after that: 9700 (that: 10150 seven times, correction)", *reanalysed(CORRECTED, 9700)),
+    ("A after that: 10100 (that: 10150 seven times, correction)", *reanalysed(CORRECTED, 10100)),
+    ("A after that: 10099 (that: 10150 seven times, correction)", *reanalysed(CORRECTED, 10099)),
+    "READINGS 18, 19: a failed reanalysis keeps the verdict; a passed one is not judged again, and its chart is sound",
+    ("A, posts 10250 10301", *posted(A, 10250, 10301)),
+    ("A after that: 10302 (that: 10250 10301)", call("reanalyse", 2, 10302)),
+    ("A after that, correction (that: 10250 10301, reanalysis 10302)", "correct"),
+    ("A after that: 10250 (that: 10250 10301, reanalysis 10302, correction)", call("reanalyse", 2, 10250)),
+    ("A after that (that: 10250 10301, reanalysis 10302, correction, reanalysis 10250)", "show"),
+    ("A after that, posts 10000 (that: 10250 10301, reanalysis 10302, correction, reanalysis 10250)",
+     *posts(2, [10000])),
+    ("A after 10250 10301: 10250", *reanalysed(AFTER_OUT, 10250)),
+    ("A after that, write (that: 10250 10301, reanalysis 10250)", "write"),
+    ("A with the series 10250 10250, read (the form just written)", read(Chart(*A, (10250, 10250), 0, 0))),
+)
+
+REFUSALS = (
+    "READINGS 5: a post or a reanalysis of another kind is refused with 4, kinds 0 and 4 too, after 8 and 10",
+    ("A, post of kind 0", build(A), "post 0 10000 10000 0"),
+    ("A, post of kind 4", build(A), "post 4 10000 10000 0"),
+    ("A, post of kind 3", build(A), "post 3 10000 0 10000"),
+    ("K, post of a spike", build(K), "post 3 1 0 10"),
+    ("A, reanalysis of kind 4", build(A), "reanalyse 4 10000 10000 0"),
+    ("A after 10250 10301, post of kind 4", read(AFTER_OUT), "post 4 10000 10000 0"),
+    ("A after 10250 10301, reanalysis of kind 4", read(AFTER_OUT), "reanalyse 4 10000 10000 0"),
+    ("A after 10250 10301, reanalysis of kind 0", read(AFTER_OUT), "reanalyse 0 10000 10000 0"),
+    "document 01, numbers for what is declined, READINGS 4: a word out of range is 7 and no verdict",
+    ("A, post of X 1000000001", build(A), "post 2 1000000001 10000 0"),
+    ("A, post of A 0", build(A), "post 2 10000 0 0"),
+    ("A, post of X 20001, A 10000", build(A), "post 2 20001 10000 0"),
+    ("A, post of X 2, A 3, third number -5", build(A), "post 2 2 3 -5"),
+    ("A after 10250 10301, reanalysis of X -1", read(AFTER_OUT), "reanalyse 2 -1 10000 0"),
+    ("A after 10250 10301, reanalysis of A 0", read(AFTER_OUT), "reanalyse 2 10000 0 0"),
+    ("A after 10250 10301, reanalysis of X 30000, A 10000", read(AFTER_OUT), "reanalyse 2 30000 10000 0"),
+    "document 01, numbers for what is declined: 8, 10 and 11, by the status",
+    ("A, reanalysis of X 10000, A 10000", build(A), "reanalyse 2 10000 10000 0"),
+    ("A, correction", build(A), "correct"),
+    ("A after 10250 10301, post of X 10000, A 10000", read(AFTER_OUT), "post 2 10000 10000 0"),
+    ("A after 10250 10301, correction", read(AFTER_OUT), "correct"),
+    ("A after 10250 10301, renewal", read(AFTER_OUT), "renew"),
+    ("A after 10150 seven times, post of X 10000, A 10000", read(AFTER_SIDE), "post 2 10000 10000 0"),
+    ("A after 10150 seven times, renewal", read(AFTER_SIDE), "renew"),
+    "READINGS 6: the 366th post is accepted; a full series is 9, but 8 comes first; reanalysis works on it",
+    ("A, posts 10000 365 times", *posted(A, *[10000] * 365)),
+    ("A after that, posts 10301 (that: 365 words)", *posts(2, [10301])),
+    ("A after that, post of kind 4 (that: 366 words, the last 10301)", "post 4 10000 10000 0"),
+    ("A after that: 10000 (that: 366 words, the last 10301)", call("reanalyse", 2, 10000)),
+    ("A after that, post of X 10000 (that: 366 words, the last reanalysed)", "post 2 10000 10000 0"),
+    ("A after that, post of kind 4 (that: 366 words, the last reanalysed)", "post 4 10000 10000 0"),
+)
+
+RENEWAL = (
+    "READINGS 20: renewal takes the last 15 words of the base followed by the series",
+    ("A of 366 words, renewal", read(Chart(*A, (10000,) * 366, 0, 0)), "renew"),
+    ("A after that (that: 366 words, renewal)", "show"),
+    ("A, posts 10110 9890 10120", *posted(A, 10110, 9890, 10120)),
+    ("A after that, renewal (that: 10110 9890 10120)", "renew"),
+    ("A after that (that: 10110 9890 10120, renewal)", "show"),
+    ("A, renewal", build(A), "renew"),
+    ("A after that (that: a renewal without posts)", "show"),
+    ("A, posts 10290 and 10000 fourteen times", *posted(A, 10290, *[10000] * 14)),
+    ("A after that, renewal (that: 10290 and 10000 fourteen times)", "renew"),
+    ("A after that (that: 10290 and 10000 fourteen times, renewal)", "show"),
+    "READINGS 20: base and series together below 15 words are refused with 12",
+    ("1000 fourteen times and 2000, renewal", build((1, HIGH)), "renew"),
+    ("1000 fourteen times and 2000, posts 999", *posted((1, HIGH), 999)),
+    ("1000 fourteen times and 2000 after that, renewal (that: 999)", "renew"),
+    ("1000 fourteen times and 2000 after that (that: 999, renewal)", "show"),
+)
+
+HANDED_IN = (
+    "READINGS 19: status 2 with verdict 1 and status 1 with verdict 4 are sound",
+    ("A after 10250 10301 with status 2, correction", read(AFTER_OUT._replace(status=2)), "correct"),
+    ("A after 10150 seven times with status 1: 10000", *reanalysed(CORRECTED, 10000)),
+)
+
+STORED = (
+    "document 01, figures: 4135 is stored as 27 10, and 10000 as 10 27; READINGS 25: a fresh chart has 48 bytes",
+    ("4135 seven times and 10000 eight times, 48 bytes lent (kind 2)", build((2, SWAPPED)), "write"),
+    ("-313 fifteen times, kind 3, 48 bytes lent", build((3, (-313,) * 15)), "write"),
+    ("A, write", build(A), "write"),
+    "READINGS 21: the form of A with one number changed; structure is 13, content is 14",
+    *edits("", FRESH, (
+        ("first length", 0, (0, 1, 6, 7, 8, 9, 10, 65535)),
+        ("first record kind", 2, (0, 1, 2, 257)),
+        ("chart kind", 4, (0, 1, 2, 3, 4, 257, 258)),
+        ("status", 6, (0, 1, 2, 3, 256)),
+        ("open verdict", 8, (0, 1, 5, 256)),
+        ("second length", 10, (0, 1, 2, 20, 22, 30, 31, 32, 33, 34, 65535)),
+        ("second record kind", 12, (1, 2, 3, 258)),
+        ("first base word", 14, (9901, 20001, 45535, 45536, 65535)),
+        ("third length", 44, (0, 1, 2, 3, 4, 65535)),
+        ("third record kind", 46, (0, 2, 3, 4, 259)))),
+    "READINGS 21: a negative word in kind 1 is 14; K has the series 1000 1000 here",
+    *edits("K, ", Chart(*K, (1000, 1000), 0, 0), (
+        ("first base word", 14, (901, 65535)),
+        ("first series word", 48, (0, 65535)))),
+    "READINGS 9: kind 1 has no lower limit in soundness",
+    *edits("1000 fourteen times and 0, ", Chart(1, LOW, (), 0, 0), (("chart kind", 4, (1, 2)),)),
+    "READINGS 22: no word of the series but the last may be beyond a control limit, whatever the status",
+    *edits("A after 10250 10000, ", Chart(*A, (10250, 10000), 0, 0), (
+        ("first series word", 48, (10250, 10300, 10301)),
+        ("second series word", 50, (10300, 10301)))),
+    ("A, series 10301 10301, status 1, verdict 1", read(Chart(*A, (10301, 10301), 1, 1))),
+    ("A, series 10301 10301, status 2, verdict 1", read(Chart(*A, (10301, 10301), 2, 1))),
+    "document 01, stored form, READINGS 19: status and verdict go with the last word",
+    *edits("A after 10250 10301, ", AFTER_OUT, (
+        ("second series word", 50, (10300, 10301, 10302)),
+        ("status", 6, (0, 1, 2, 3)),
+        ("open verdict", 8, (0, 1, 2, 4)))),
+    "READINGS 7: sound is not the same as reachable: kind 2 may hold words below 0",
+    ("-1 fifteen times and a series of -1, kind 2, read", read(Chart(2, (-1,) * 15, (-1,), 0, 0))),
+    "document 01, numbers for what is declined: 13 for missing bytes and bytes left over; 16 zeros follow the form",
+    *first_bytes("A", A_LONG, (0, 1, 2, 9, 10, 43, 44, 46, 47, 48, 49, 50, 64)),
+    "READINGS 21: 13 comes before any content",
+    *first_bytes("chart kind 0", changed(A_LONG, 4, 0), (47, 48, 49)),
+    "document 01, stored form: a record of two-byte numbers has no odd length",
+    ("second length 33 and a byte more, the first 49 bytes (the byte follows the base words)",
+     read(changed(A_FORM[:44], 10, 33) + b"\0" + A_FORM[44:])),
+    ("third length 3 and a byte more, the first 49 bytes (the byte is the last)",
+     read(changed(A_FORM, 44, 3) + b"\0")),
+    "document 01, stored form: 10 to 32 words in the base, 0 to 366 in the series, each 1000",
+    *[("base of %d and series of %d" % sizes, read(sizes_form(*sizes)))
+      for sizes in ((9, 0), (10, 0), (32, 0), (33, 0), (15, 1), (15, 366), (15, 367))],
+    "READINGS 21: a head of 6 or 10 bytes is 13",
+    ("head of two numbers", read(model.record(1, (2, 0)) + TEN_RECORDS["base"] + TEN_RECORDS["series"])),
+    ("head of four numbers", read(model.record(1, (2, 0, 0, 0)) + TEN_RECORDS["base"] + TEN_RECORDS["series"])),
+    "document 01, stored form: the records stand in this order, and nothing follows",
+    *map(in_order, ("head base series", "head series base", "base head series", "base series head",
+                    "series base head", "head base", "head base series series")),
+    "document 01, stored form: numbers are little-endian",
+    ("A, the bytes of every number exchanged", read(exchanged(A_FORM, 0, 48))),
+    ("A, the bytes of every word exchanged", read(exchanged(A_FORM, 14, 44))),
+    ("4135 and 10000, the bytes of every word exchanged",
+     read(exchanged(model.stored_form(Chart(2, SWAPPED, (), 0, 0)), 14, 44))),
+)
+
+LINES = (
+    "document 01, figures: A has mean 10000, S 100, limits 9700, 9800, 10200, 10300",
+    ("A, lines", build(A), "lines"),
+    "document 01, figures, READINGS 32: the lines of C times 256 are 2559740, 2559873, 2560136, 2560400, 2560533",
+    ("C, lines", build(C), "lines"),
+    "READINGS 26: the mean line goes down and a lower limit up; M is C negated, and P is N negated",
+    ("M, lines", build(M), "lines"),
+    ("N, lines", build(N), "lines"),
+    ("P, lines", build(P), "lines"),
+    "READINGS 27: the lower warning limit of Q is a little below 0, and its line is 0",
+    ("Q, lines", build(Q), "lines"),
+    "READINGS 28: the limits of W and of H leave the range of words; H is read, since ten words build no chart",
+    ("W, lines", build(W), "lines"),
+    ("H, lines", read(Chart(*H, (), 0, 0)), "lines"),
+    "document 01, mistakes that look reasonable: a limit is not rounded to the nearest 256th",
+    ("E, lines", build(E), "lines"),
+    ("F, lines", build(F), "lines"),
+    ("G, lines", build(G), "lines"),
+    "document 01, lines for the plotter: kind 1 has three",
+    ("K, lines", build(K), "lines"),
+    ("Z, lines", build(Z), "lines"),
+    ("T, lines", build(T), "lines"),
+    ("D, lines", build(D), "lines"),
+)
+
+LISTS = (
+    "document 01, lists: each call goes on from the chart that the call before it gave back",
+    ("A, a run to one side and its correction", *posted(A, *[10150] * 7), "correct", "show", "lines"),
+    ("A, numbers that are no readings", build(A), "post 258 10000 10000 10000", "post 2 -1 10000 10000",
+     "post 2 4294977296 10000 10000", "post 2 1000000001 0 10000", "post 2 10000 0 10000",
+     "post 2 10000 10000 10000", "correct", "renew", "show", "lines"),
+    ("K, kinds that are none", build(K), "post -1 1 1 10000", "post 65537 1 1 10000", "post 1 1 2 10000",
+     "reanalyse 1 1 1 10000", "correct", "reanalyse 1 1 1 10000", "renew", "show", "lines"),
+    ("wide, a renewal of six rounds", build((1, (20000,) * 22 + (0,) * 10)), *posts(1, (1, 12, 144, 1728, 20000)),
+     "renew", "renew", "post 1 1 2 10000", "show", "lines"),
+    ("N, spikes", build(N), "post 3 0 1 10000", "post 3 0 2 10000", "post 3 0 2 10000", "reanalyse 3 0 3 10000",
+     "correct", "reanalyse 3 1 2 10000", "post 3 30000 0 10000", "renew", "show", "lines"),
+    ("stored N, one call", read(Chart(*N, (), 0, 0)), "post 3 0 1 20000", "show", "lines"),
+)
+
+SECTIONS = (
+    ("Before a chart is built or read", BEFORE),
+    ("Words", WORDS),
+    ("Charts", CHARTS),
+    ("Posts", POSTS),
+    ("Reanalysis", REANALYSIS),
+    ("Correction", CORRECTION),
+    ("Refusals", REFUSALS),
+    ("Renewal", RENEWAL),
+    ("Charts handed in, as stored forms", HANDED_IN),
+    ("Stored forms", STORED),
+    ("Lines", LINES),
+    ("Lists, call by call", LISTS),
+)
+
+
+# The block
+
+def told(words):
+    """Words as text: 9900 seven times, 10100 seven times, 10000."""
+    runs = [(word, len(list(same))) for word, same in groupby(words)]
+    return ", ".join("%d%s" % (word, TIMES[count - 1]) for word, count in runs)
+
+
+def say(rec, text):
+    """A line that the program passes over."""
+    rec.raw(b"# " + text.encode("ascii"))
+
+
+def put(rec, label, *lines):
+    """One case, with `show` where the chart was made or may have changed."""
+    say(rec, label)
+    for line in lines:
+        answer = rec.raw(line.encode("ascii"))
+    command = lines[-1].split()[0]
+    no_chart = command in ("build", "read") and answer.startswith(b"refused")
+    if command not in LOOKING and not no_chart:
+        rec.do("show")
+
+
+def figures(rec):
+    """Adds all sections. The record must still have the chart of zeros."""
+    assert rec.chart == model.ZEROS
+    rec.raw(b"")
+    say(rec, "== The figures of document 01 and the cases of its readings")
+    for letter, (kind, words) in LETTERS.items():
+        say(rec, "base %s: kind %d, %s" % (letter, kind, told(words)))
+    for title, entries in SECTIONS:
+        rec.raw(b"")
+        say(rec, "== " + title)
+        for entry in entries:
+            if isinstance(entry, str):
+                rec.raw(b"")
+                say(rec, entry)
+            else:
+                put(rec, *entry)
+    rec.raw(b"")

@@ -1,0 +1,255 @@
+"""Makes the expected output of the program cases: labels and inputs stand here, every answer comes from the model.
+
+python3 make_cases.py > output
+"""
+
+import sys
+
+import interface
+import model
+from interface import built, value_of
+from model import Chart, Refused
+
+PATH = "crates/cases/stdout"
+
+A = (9900,) * 7 + (10100,) * 7 + (10000,)
+C = (10000,) * 7 + (10001,) * 8
+Q = (0, 0, 1) + (2,) * 6 + (3,) * 5 + (4,) * 5
+K = (900,) * 7 + (1100,) * 7 + (1000,)
+TEN = (0,) * 10 + (1, 12, 144, 1728, 20000)
+
+LINE_NAMES = ("mean", "lower warning", "upper warning", "lower control", "upper control")
+LINE_NAMES_KIND_1 = ("mean", "upper warning", "upper control")
+
+
+def check(word):
+    """A kind and three numbers: a check sample (kind 2) with this word."""
+    return 2, word, 10000, 0
+
+
+def posted(*words):
+    """A with posts of these words."""
+    chart = built(2, A)
+    for word in words:
+        chart = model.post(chart, *check(word))[0]
+    return chart
+
+
+def blank_before(numbers):
+    """Numbers with a blank before each."""
+    return "".join(" %d" % number for number in numbers)
+
+
+def lengths(chart):
+    """Kind, lengths, status and verdict of a chart."""
+    return "kind %d base %d series %d status %d verdict %d" % (
+        chart.kind, len(chart.base), len(chart.series), chart.status, chart.verdict)
+
+
+# Charts handed in
+
+A_VALUE = value_of(built(2, A))
+LONG_VALUE = A_VALUE._replace(base=A + A + (10000,) * 2, base_len=33)
+
+
+def base_with(place, word):
+    """A with another word in one place of the base."""
+    return A_VALUE._replace(base=A_VALUE.base[:place] + (word,) + A_VALUE.base[place + 1:])
+
+
+HANDED_IN = (
+    ("A with a base of 9, posts 10000", value_of(Chart(2, A[:9], (), 0, 0)), model.post),
+    ("A with a base of 33, posts 10000", LONG_VALUE, model.post),
+    ("A with a series of 367, posts 10000", A_VALUE._replace(series=(10000,) * 366, series_len=367), model.post),
+    ("A with a word in an unused place of the base, posts 10000", base_with(31, 10000), model.post),
+    ("A with a word in an unused place of the series, posts 10000",
+     A_VALUE._replace(series=(0,) * 365 + (10000,)), model.post),
+    ("A with status 9, posts 10000", A_VALUE._replace(status=9), model.post),
+    ("A with status 9: 10000", A_VALUE._replace(status=9), model.reanalyse),
+    ("A with status 9, correction", A_VALUE._replace(status=9), model.correct),
+    ("A with status 9, renewal", A_VALUE._replace(status=9), model.renew),
+)
+
+
+def outcome(call, answer):
+    """The answer of a call on a chart, as text."""
+    if call is model.post:
+        return "%d" % answer[1]
+    if call is model.reanalyse:
+        return "passed" if answer[1] else "failed"
+    if call is model.correct:
+        return "corrected"
+    return "rounds %d removed %d" % tuple(answer)
+
+
+def handed_in(label, value, call):
+    """A call on a chart value: the answer, then status and verdict of the value that it gives back."""
+    given = check(10000) if call in (model.post, model.reanalyse) else ()
+    try:
+        value, *answer = interface.on_value(value, call, *given)
+        text = outcome(call, answer)
+    except Refused as refused:
+        text = "refused %d" % refused.number
+    return "%s: %s, status %d verdict %d" % (label, text, value.status, value.verdict)
+
+
+# Stored forms
+
+LENT_BYTE = 0xaa
+
+WRITTEN = (
+    ("A", A_VALUE, 48),
+    ("A", A_VALUE, 50),
+    ("A", A_VALUE, 47),
+    ("A", A_VALUE, 9),
+    ("A after 10250 10210", value_of(posted(10250, 10210)), 52),
+    ("A with kind 4", A_VALUE._replace(kind=4), 9),
+    ("A with kind 4", A_VALUE._replace(kind=4), 50),
+    ("A with a base of 33", LONG_VALUE, 50),
+)
+
+READ_BACK = (
+    ("A, read back", A_VALUE, 1024),
+    ("A after 10250 10210, read back", value_of(posted(10250, 10210)), 1024),
+    ("-313 fifteen times, kind 3, read back", value_of(built(3, (-313,) * 15)), 1024),
+    ("0 ten times, 1, 12, 144, 1728, 20000, kind 1, read back", value_of(built(1, TEN)), 1024),
+    ("A after 366 posts, read back", value_of(posted(*(10000,) * 366)), 1024),
+    ("A with kind 4, read back", A_VALUE._replace(kind=4), 1024),
+    ("A, read back by way of 47 bytes", A_VALUE, 47),
+)
+
+
+def written(label, value, count):
+    """A write into some lent bytes: the answer, then all of them."""
+    lent = bytearray([LENT_BYTE]) * count
+    try:
+        text = "wrote %d" % interface.write_into(value, lent)
+    except Refused as refused:
+        text = "refused %d" % refused.number
+    return "%s, %d bytes lent: %s: %s" % (label, count, text, lent.hex(" "))
+
+
+def read_back(label, value, count):
+    """A write into some lent bytes and a read of what was written: the chart."""
+    lent = bytearray([LENT_BYTE]) * count
+    try:
+        chart = model.read(bytes(lent[:interface.write_into(value, lent)]))
+    except Refused as refused:
+        return "%s: refused %d" % (label, refused.number)
+    return "%s: kind %d base of %d:%s; series of %d:%s, status %d verdict %d" % (
+        label, chart.kind, len(chart.base), blank_before(chart.base),
+        len(chart.series), blank_before(chart.series), chart.status, chart.verdict)
+
+
+# Lines
+
+AGAINST_LINES = (
+    ("A", built(2, A), (9699, 9700, 9799, 9800, 10000, 10200, 10201, 10300, 10301)),
+    ("C", built(2, C), (9998, 9999, 10000, 10001, 10002, 10003)),
+    ("Q", built(3, Q), (-2, -1, 0, 5, 6)),
+    ("K", built(1, K), (0, 700, 799, 1200, 1201, 1300, 1301)),
+)
+
+
+def against_lines(label, chart, word):
+    """A word against the lines of a chart."""
+    try:
+        beyond = interface.against_lines(chart, word)
+        text = ", ".join("%s %d" % pair for pair in zip(LINE_NAMES[1:], beyond))
+    except Refused as refused:
+        text = "refused %d" % refused.number
+    return "%s, %d against the lines: %s" % (label, word, text)
+
+
+def lines_text(chart):
+    """The lines of a chart: of each its name, k and the bits of its double."""
+    try:
+        lines = model.lines(chart)
+    except Refused as refused:
+        return "refused %d" % refused.number
+    names = LINE_NAMES_KIND_1 if chart.kind == 1 else LINE_NAMES
+    return ", ".join("%s %d %s" % (name, k, interface.double_bits(k)) for name, k in zip(names, lines))
+
+
+# Lists
+
+LENT_NUMBERS = (7,) * 24
+
+
+def calls(*fours):
+    """A list of calls: of each the number, the kind and two numbers; the third is 10000."""
+    return tuple(number for four in fours for number in four + (10000,))
+
+
+FOURTEEN = (10000,) * 14
+STORED_A = model.write(posted(10301))
+STORED_STATUS_3 = model.stored_form(posted(10301)._replace(status=3))
+ONE_CALL = (3, 0, 0, 0, 0)
+SIX_NUMBERS = (3, 0, 0, 0, 0, 3)
+
+LISTS = (
+    ("A, no calls", built, (2, A), ()),
+    ("A, eight calls", built, (2, A),
+     calls((1, 2, 10250, 10000), (1, 2, 10301, 10000), (1, 2, 10000, 10000), (2, 2, 10250, 10000), (3, 0, 0, 0),
+           (2, 2, 10000, 10000), (1, 3, 1, 1), (4, 0, 0, 0))),
+    ("A, six numbers", built, (2, A), SIX_NUMBERS),
+    ("A, call number 5", built, (2, A), (5, 0, 0, 0, 0)),
+    ("A, call number 0", built, (2, A), (0, 0, 0, 0, 0)),
+    ("A, call number -1", built, (2, A), (-1, 0, 0, 0, 0)),
+    ("A, call number 65537", built, (2, A), (65537, 2, 1, 1, 0)),
+    ("A, a later call number 9", built, (2, A), (3, 0, 0, 0, 0, 9, 0, 0, 0, 0)),
+    ("A, nine calls and a number", built, (2, A), (3,) * 46),
+    ("A, nine calls", built, (2, A), (3,) * 45),
+    ("fourteen words, one call", built, (2, FOURTEEN), ONE_CALL),
+    ("kind 4, one call", built, (4, A), ONE_CALL),
+    ("kind 4 and fourteen words, one call", built, (4, FOURTEEN), ONE_CALL),
+    ("fourteen words, six numbers", built, (2, FOURTEEN), SIX_NUMBERS),
+    ("fourteen words, nine calls", built, (2, FOURTEEN), (3,) * 45),
+    ("stored A, two calls", model.read, (STORED_A,), (2, 2, 10301, 10000, 0, 3, 0, 0, 0, 0)),
+    ("stored A with status 3, one call", model.read, (STORED_STATUS_3,), ONE_CALL),
+    ("no bytes, one call", model.read, (b"",), ONE_CALL),
+)
+
+
+def listed(label, start, given, numbers):
+    """A list of calls: its answer, the lent numbers, the chart after it and its lines."""
+    answer, lent, chart = interface.run_list(start, given, numbers, LENT_NUMBERS)
+    return "%s: %s; answers%s; chart %s; %s" % (label, answer, blank_before(lent), lengths(chart), lines_text(chart))
+
+
+# Refused starts
+
+REFUSED_STARTS = (
+    ("kind 4, A's words, building", built, (4, A)),
+    ("no bytes, reading", model.read, (b"",)),
+)
+
+
+def refused_start(label, start, given):
+    """The chart that a refused build or read gives, with every place."""
+    chart = interface.start_or_zeros(start, *given)
+    value = value_of(chart)
+    return "%s: %s; base places%s; series places%s" % (
+        label, lengths(chart), blank_before(value.base), blank_before(value.series))
+
+
+def sections():
+    """The headings, each with its lines."""
+    return (
+        ("Charts handed in", [handed_in(*case) for case in HANDED_IN]),
+        ("Stored forms", [written(*case) for case in WRITTEN] + [read_back(*case) for case in READ_BACK]),
+        ("Lines", [against_lines(label, chart, word) for label, chart, words in AGAINST_LINES for word in words]
+         + [against_lines("chart of zeros", model.ZEROS, 0)]),
+        ("Lists", [listed(*case) for case in LISTS]),
+        ("Refused starts", [refused_start(*case) for case in REFUSED_STARTS]),
+    )
+
+
+def files():
+    """The file that is made, by its path from the root of the repository."""
+    text = "".join("%s\n%s" % (heading, "".join(line + "\n" for line in lines)) for heading, lines in sections())
+    return {PATH: text.encode("ascii")}
+
+
+if __name__ == "__main__":
+    sys.stdout.buffer.write(files()[PATH])

@@ -1,0 +1,360 @@
+"""Figures of document 01, of its readings and of include/control_chart.h, run on the calls beyond the commands.
+
+python3 test_interface.py
+"""
+
+import interface
+import make_calls
+import make_cases
+import model
+from interface import LentChart, against_lines, built, chart_of, double_bits, on_value, run_list, start_or_zeros
+from interface import value_of, write_into
+from model import Chart
+
+A = (9900,) * 7 + (10100,) * 7 + (10000,)
+C = (10000,) * 7 + (10001,) * 8
+K = (900,) * 7 + (1100,) * 7 + (1000,)
+
+# The stored form of a fresh A, by hand: ac 26 is 9900, 74 27 is 10100, 10 27 is 10000.
+A_FORM = bytes.fromhex("0800 0100 0200 0000 0000 2000 0200" + "ac26" * 7 + "7427" * 7 + "1027" + "0200 0300")
+
+PASSED = 0
+
+
+def same(found, wanted):
+    """One check."""
+    global PASSED
+    assert found == wanted, (found, wanted)
+    PASSED += 1
+
+
+def refusal(function, *given):
+    """The number with which a call is refused, or 0."""
+    try:
+        function(*given)
+    except model.Refused as refused:
+        return refused.number
+    return 0
+
+
+def is_no_input(function, *given):
+    """Whether what is given is declined as no input at all."""
+    try:
+        function(*given)
+    except ValueError:
+        return True
+    return False
+
+
+def test_charts_handed_in():
+    """Stored form: soundness with unused places; readings 20, 23, 24."""
+    value = value_of(Chart(2, A, (10301,), 1, 1))
+    same((value.base, value.base_len), (A + (0,) * 17, 15))
+    same((value.series, value.series_len), ((10301,) + (0,) * 365, 1))
+    same(chart_of(value), Chart(2, A, (10301,), 1, 1))
+    # The base has 10 to 32 words, the series up to 366; all words are the same, so that nothing else is wrong.
+    flat = value_of(Chart(2, (5,) * 10, (), 0, 0))
+    for count, wanted in ((9, 14), (10, 0), (32, 0)):
+        places = (5,) * count + (0,) * (32 - count)
+        same(refusal(chart_of, flat._replace(base=places, base_len=count)), wanted)
+    same(refusal(chart_of, flat._replace(base=(5,) * 32, base_len=33)), 14)
+    same(refusal(chart_of, flat._replace(base_len=0)), 14)
+    same(refusal(chart_of, flat._replace(series=(5,) * 366, series_len=366)), 0)
+    same(refusal(chart_of, flat._replace(series=(5,) * 366, series_len=367)), 14)
+    same(refusal(chart_of, flat._replace(series=(5,) * 366, series_len=365)), 14)
+    same(refusal(chart_of, flat._replace(base=(5,) * 10 + (1,) + (0,) * 21)), 14)
+    same(refusal(chart_of, flat._replace(base=(5,) * 10 + (0,) * 21 + (-1,))), 14)
+    same(refusal(chart_of, flat._replace(series=(0,) * 365 + (5,))), 14)
+    # A used place may hold 0.
+    same(refusal(chart_of, value_of(Chart(3, (0,) * 10, (0, 0), 0, 0))), 0)
+    same(refusal(chart_of, flat._replace(kind=0)), 14)
+    same(refusal(chart_of, flat._replace(status=3)), 14)
+
+
+def test_calls_on_values():
+    """Numbers for what is declined: 14 first, and what a call gives back."""
+    fresh = value_of(built(2, A))
+    value, word, verdict = on_value(fresh, model.post, 2, 10301, 10000, 0)
+    same((word, verdict, value.status, value.verdict), (10301, 1, 1, 1))
+    same((value.series[:2], value.series_len), ((10301, 0), 1))
+    value, word, passed = on_value(value, model.reanalyse, 2, 10301, 10000, 0)
+    same((word, passed, value.status, value.verdict), (10301, False, 2, 1))
+    same(on_value(value, model.correct), (value._replace(status=1),))
+    posted = on_value(fresh, model.post, 2, 10000, 10000, 0)[0]
+    renewed, rounds, removed = on_value(posted, model.renew)
+    same((rounds, removed), (1, 0))
+    same((renewed.base, renewed.base_len), (A[1:] + (10000,) + (0,) * 17, 15))
+    same((renewed.series, renewed.series_len), ((0,) * 366, 0))
+    bad = fresh._replace(status=9)
+    same(refusal(on_value, bad, model.post, 4, -1, 0, 0), 14)
+    same(refusal(on_value, bad, model.reanalyse, 4, -1, 0, 0), 14)
+    same(refusal(on_value, bad, model.correct), 14)
+    same(refusal(on_value, bad, model.renew), 14)
+    same(refusal(on_value, fresh, model.post, 4, -1, 0, 0), 4)
+    same(refusal(on_value, fresh, model.correct), 11)
+
+
+def test_refused_starts():
+    """Numbers for what is declined: a refused build or read gives a chart of zeros; reading 24."""
+    unsound = model.stored_form(Chart(2, A, (), 3, 0))
+    same(refusal(model.read, unsound), 14)
+    for start, given in ((built, (4, A)), (built, (2, A[:14])), (model.read, (b"",)), (model.read, (unsound,))):
+        value = value_of(start_or_zeros(start, *given))
+        same(value, (0, (0,) * 32, 0, (0,) * 366, 0, 0, 0))
+        same(refusal(chart_of, value), 14)
+    same(start_or_zeros(model.read, A_FORM), Chart(2, A, (), 0, 0))
+
+
+def test_writing():
+    """Stored form: lent bytes; reading 25."""
+    fresh = value_of(built(2, A))
+    for count, wanted in ((48, A_FORM), (50, A_FORM + b"\xaa\xaa")):
+        lent = bytearray(b"\xaa" * count)
+        same(write_into(fresh, lent), 48)
+        same(lent, wanted)
+    unsound = fresh._replace(kind=4)
+    for value, count, wanted in ((fresh, 47, 15), (fresh, 9, 15), (fresh, 0, 15), (unsound, 9, 14), (unsound, 50, 14)):
+        lent = bytearray(b"\xaa" * count)
+        same(refusal(write_into, value, lent), wanted)
+        same(lent, b"\xaa" * count)
+    longest = value_of(Chart(3, (-1,) * 32, (-1,) * 366, 0, 0))
+    same(write_into(longest, bytearray(814)), 814)
+    same(refusal(write_into, longest, bytearray(813)), 15)
+
+
+def test_against_lines():
+    """Lines for the plotter: doubles, and a word against them; readings 8, 9, 27, 28."""
+    same(double_bits(0), "0000000000000000")
+    same(double_bits(256), "3ff0000000000000")
+    same(double_bits(-128), "bfe0000000000000")
+    same(double_bits(2560000), "40c3880000000000")
+    same(double_bits(2560400), "40c388c800000000")
+    # C has the limits 9998.98.., 9999.50.., 10001.56.. and 10002.08..
+    chart = built(2, C)
+    same([k / 256 for k in model.lines(chart)], [10000.53125, 9999.50390625, 10001.5625, 9998.984375, 10002.08203125])
+    for word, wanted in ((9998, (1, 0, 1, 0)), (9999, (1, 0, 0, 0)), (10000, (0, 0, 0, 0)), (10001, (0, 0, 0, 0)),
+                         (10002, (0, 1, 0, 0)), (10003, (0, 1, 0, 1)), (32767, (0, 1, 0, 1)), (-32768, (1, 0, 1, 0))):
+        same(against_lines(chart, word), wanted)
+    # A has the limits 9700, 9800, 10200, 10300; a word on a limit is not beyond it.
+    for word, wanted in ((9699, (1, 0, 1, 0)), (9700, (1, 0, 0, 0)), (9800, (0, 0, 0, 0)), (10200, (0, 0, 0, 0)),
+                         (10201, (0, 1, 0, 0)), (10300, (0, 1, 0, 0)), (10301, (0, 1, 0, 1))):
+        same(against_lines(built(2, A), word), wanted)
+    for word, wanted in ((-32768, (0, 0, 0, 0)), (699, (0, 0, 0, 0)), (1200, (0, 0, 0, 0)), (1201, (0, 1, 0, 0)),
+                         (1300, (0, 1, 0, 0)), (1301, (0, 1, 0, 1))):
+        same(against_lines(built(1, K), word), wanted)
+    same(refusal(against_lines, model.ZEROS, 0), 14)
+    same(refusal(against_lines, built(1, K)._replace(status=3), 0), 14)
+    # The lines judge every word as the exact limits do.
+    for _, chart, _ in make_cases.AGAINST_LINES:
+        of_base = model.figures(chart.base)
+        ks = model.lines(chart)[1:]
+        words = {k // 256 + off for k in ks for off in (-1, 0, 1, 2)} | {-32768, -20000, 0, 20000, 32767}
+        for word in sorted(word for word in words if -32768 <= word <= 32767):
+            exact = [model.beyond_side(chart.kind, of_base, times, word) == way for times in (2, 3) for way in (-1, 1)]
+            same(list(against_lines(chart, word)), exact)
+
+
+def test_lists():
+    """Lists: answers, what is declined and its order; reading 31."""
+    sevens = (7,) * 9
+    three = (1, 2, 10250, 10000, 0, 1, 2, 10301, 10000, 0, 2, 2, 10250, 10000, 0)
+    same(run_list(built, (2, A), three, sevens),
+         ("done", (1, 10250, 0, 1, 10301, 1, 2, 10250, 1), Chart(2, A, (10250, 10250), 0, 0)))
+    same(run_list(model.read, (A_FORM,), three[:5], sevens),
+         ("done", (1, 10250, 0) + (7,) * 6, Chart(2, A, (10250,), 0, 0)))
+    same(run_list(built, (2, A), (), ()), ("done", (), Chart(2, A, (), 0, 0)))
+    # A refused call carries its number, and the next call goes on from the same chart.
+    same(run_list(built, (2, A), (3, 2, 5, 5, 5, 1, 2, 0, 0, 0, 4, 0, 0, 0, 0), sevens),
+         ("done", (0, 11, 0, 0, 6, 0, 4, 1, 0), Chart(2, A, (), 0, 0)))
+    same(run_list(built, (2, A), (1, 2, 10301, 10000, 0, 2, 2, 9699, 10000, 0, 3, 9, 9, 9, 9), sevens),
+         ("done", (1, 10301, 1, 2, 9699, 0, 3, 0, 0), Chart(2, A, (10301,), 1, 1)))
+    # Kinds are not cut to sixteen bits.
+    for kind in (-1, 0, 3, 258, 65538, 4294967298, -65534):
+        same(run_list(built, (2, A), (1, kind, 10000, 10000, 0), sevens)[1][:3], (0, 4, 0))
+    same(run_list(built, (2, A), (1, 2, 4294977296, 10000, 0), sevens)[1][:3], (0, 5, 0))
+    fourteen = (10000,) * 14
+    unsound = model.stored_form(Chart(2, A, (), 3, 0))
+    for start, given, numbers, room, wanted in (
+            (built, (2, A), (3, 0, 0, 0), 9, "no list"),
+            (built, (2, A), (0, 0, 0, 0, 0), 9, "no list"),
+            (built, (2, A), (5, 0, 0, 0, 0), 9, "no list"),
+            (built, (2, A), (65537, 2, 1, 1, 0), 9, "no list"),
+            (built, (2, A), (3,) * 16, 2, "no list"),
+            (built, (2, fourteen), (3,) * 6, 9, "no list"),
+            (built, (2, A), (3,) * 15, 8, "no room"),
+            (built, (2, fourteen), (3,) * 5, 2, "no room"),
+            (built, (2, fourteen), (3,) * 5, 3, "start refused 2"),
+            (built, (4, fourteen), (3,) * 5, 3, "start refused 1"),
+            (built, (1, (-1,) * 15), (), 0, "start refused 3"),
+            (model.read, (b"",), (3,) * 5, 3, "start refused 13"),
+            (model.read, (unsound,), (3,) * 5, 3, "start refused 14")):
+        same(run_list(start, given, numbers, (7,) * room), (wanted, (7,) * room, model.ZEROS))
+
+
+def lent_chart(form, room=None, behind=b"\x77" * 6):
+    """Lent bytes with a form at their front and some bytes behind it."""
+    lent = LentChart(form + behind, len(form))
+    lent.tell(len(form), len(form + behind) if room is None else room)
+    return lent
+
+
+def test_order_for_c():
+    """The header: 13, 14, the call's own numbers, 7 and 15 of the lines, 15 last."""
+    open_form = model.stored_form(Chart(2, A, (10020, 10250, 10310), 1, 1))
+    same(len(open_form), 54)
+    unsound = model.stored_form(Chart(2, A, (10301,), 0, 1))
+    on_a_chart = (("post", (4, -1, 0, 0)), ("reanalyse", (4, -1, 0, 0)), ("correct", ()), ("renew", ()),
+                  ("lines", (0,)), ("against_lines", (70000, 0)), ("check", ()))
+    for place, (name, given) in enumerate(on_a_chart):
+        # A size above room is 13, though a form is there; lines, against_lines and check take no room.
+        same(refusal(getattr(lent_chart(open_form, 53), name), *given), 13 if place < 4 else (15, 7, 0)[place - 4])
+        lent = lent_chart(open_form)
+        lent.tell(2 ** 64 - 1, 53)
+        if place < 4:
+            same(refusal(getattr(lent, name), *given), 13)
+        else:
+            same(is_no_input(getattr(lent, name), *given), True)
+        same(refusal(getattr(lent_chart(b""), name), *given), 13)
+        # 13 comes before 14: one byte more than the form of a chart that is not sound.
+        lent = lent_chart(unsound, 51)
+        same(refusal(getattr(lent, name), *given), 14)
+        lent.tell(51, 51)
+        same(refusal(getattr(lent, name), *given), 13)
+        same((lent.bytes, lent.size), (unsound + b"\x77" * 6, 51))
+    # To each the later refusals apply too.
+    full = (10000,) * 365
+    for series, status, verdict, given, wanted in (
+            (full + (10301,), 1, 2, (4, -1, 0, 0), 14), (full + (10301,), 1, 1, (4, -1, 0, 0), 8),
+            (full + (10000,), 0, 0, (4, -1, 0, 0), 9), ((), 0, 0, (4, -1, 0, 0), 4), ((), 0, 0, (2, -1, 0, 0), 5),
+            ((), 0, 0, (2, 1, 0, 0), 6), ((), 0, 0, (2, 3, 1, 0), 7), ((), 0, 0, (2, 1, 1, 0), 15)):
+        form = model.stored_form(Chart(2, A, series, status, verdict))
+        lent = lent_chart(form, len(form))
+        same(refusal(lent.post, *given), wanted)
+        same((lent.bytes, lent.size), (form + b"\x77" * 6, len(form)))
+    fresh = lent_chart(A_FORM)
+    for given, wanted in (((32768, 0), 7), ((-32769, 4), 7), ((70000, 3), 7), ((32767, 3), 15), ((-32768, 0), 15),
+                          ((32767, 4), 0)):
+        same(refusal(fresh.against_lines, *given), wanted)
+    for kind, base, least in ((1, K, 3), (2, A, 5), (3, A, 5)):
+        lent = lent_chart(model.stored_form(Chart(kind, base, (), 0, 0)))
+        same([refusal(lent.lines, room) for room in range(8)], [15] * least + [0] * (8 - least))
+    for kind, words, wanted in ((4, (-1,) * 14, 1), (1, (-1,) * 14, 2), (1, (-1,) * 15, 3), (2, (-1,) * 15, 15)):
+        lent = LentChart(b"\x77" * 47, 5)
+        same(refusal(lent.build, kind, 47, words), wanted)
+        same((lent.bytes, lent.size), (b"\x77" * 47, 5))
+
+
+def test_calls_for_c():
+    """The header: what each function gives, and every lent byte."""
+    same(interface.word(1, 1, 2, -5), 6667)
+    for kind in (0, 4, 65537, 2 ** 32 - 1):
+        same(refusal(interface.word, kind, 1, 2, 3), 1)
+        same(refusal(LentChart(bytes(820), 0).build, kind, 820, A), 1)
+        same(refusal(lent_chart(model.stored_form(Chart(1, K, (), 0, 0))).post, kind, 1, 2, 3), 4)
+        same(refusal(lent_chart(model.stored_form(Chart(1, K, (1301,), 1, 1))).reanalyse, kind, 1, 2, 3), 4)
+    lent = LentChart(b"\x77" * 60, 9)
+    same(lent.build(2, 48, A), (1, 0))
+    same((lent.bytes, lent.size), (A_FORM + b"\x77" * 12, 48))
+    # A post makes the form two bytes longer: 3d 28 is 10301.
+    lent.tell(48, 49)
+    same(refusal(lent.post, 2, 10301, 10000, 0), 15)
+    lent.tell(48, 50)
+    same(lent.post(2, 10301, 10000, 0), (10301, 1))
+    posted = bytes.fromhex("0800 0100 0200 0100 0100") + A_FORM[10:44] + bytes.fromhex("0400 0300 3d28")
+    same((lent.bytes, lent.size), (posted + b"\x77" * 10, 50))
+    same(lent.reanalyse(2, 10301, 10000, 0), (10301, 0))
+    same(lent.bytes[4:10].hex(), "020002000100")
+    same(lent.correct(), ())
+    same(lent.bytes[4:10].hex(), "020001000100")
+    # A reanalysis that passes takes the last word's place: 3c 28 is 10300.
+    same(lent.reanalyse(2, 10300, 10000, 0), (10300, 1))
+    same((lent.form()[:10], lent.form()[44:].hex(), lent.size), (A_FORM[:10], "040003003c28", 50))
+    same(lent.check(), ())
+    same(lent.lines(5), (2560000, 2508800, 2611200, 2483200, 2636800))
+    same(lent.against_lines(10201, 4), (0, 1, 0, 0))
+    # The renewal's form is shorter; the bytes behind it stay, the last two of the old form among them.
+    same(lent.renew(), (1, 0))
+    same(lent.size, 48)
+    same(lent.bytes[44:].hex(), "020003003c28" + "77" * 10)
+    same(model.read(lent.form()), Chart(2, A[1:] + (10300,), (), 0, 0))
+    # The chart is what the bytes hold.
+    lent.bytes[6] = 3
+    same(refusal(lent.check), 14)
+    lent.bytes[2] = 2
+    same(refusal(lent.check), 13)
+    # Numbers that the C type does not hold are no input.
+    same(is_no_input(interface.word, -1, 1, 2, 3), True)
+    same(is_no_input(interface.word, 2 ** 32 + 1, 1, 2, 3), True)
+    same(is_no_input(interface.word, 1, 2 ** 63, 2, 3), True)
+    same(is_no_input(LentChart(bytes(60), 0).build, 2, 60, (32768,) * 15), True)
+    same(is_no_input(LentChart(bytes(60), 0).build, 2, 61, A), True)
+    same(is_no_input(LentChart(bytes(60), 0).tell, 5, 61), True)
+    same(is_no_input(lent_chart(A_FORM).against_lines, 2 ** 31, 4), True)
+
+
+def test_made_calls():
+    """The lines of the calls: what is kept, what is worked out from the lent bytes, and its spelling."""
+    a = "7*9900 7*10100 10000"
+    for asked, wanted in (
+            ("# x = 5\n\n", "# x = 5\n\n"),
+            ("word 1 1 2 0", "word 1 1 2 0 = 0 6667"),
+            ("build 2 820 / " + a, "build 2 820 / %s = 0 1 0 / %s" % (a, a)),
+            ("build 2 47 / " + a, "build 2 47 / %s = 15" % a),
+            ("build 2 820 /", "build 2 820 / = 2"),
+            ("post 2 1 1 0", "post 2 1 1 0 = 13"),
+            ("all", "all = 13")):
+        same(make_calls.made(asked), wanted)
+    chart = "chart 2 2 1 / %s / 10301\n" % a
+    for asked, wanted in (
+            ("correct\ncorrect", "correct = 0\ncorrect = 11"),
+            ("byte 6 1\ncorrect", "byte 6 1\ncorrect = 11"),
+            ("byte 6 3\nall", "byte 6 3\nall = 14"),
+            ("told 51 820\nall", "told 51 820\nall = 13"),
+            ("told -1 820\ncorrect", "told -1 820\ncorrect = 13"),
+            ("correct\nreanalyse 2 1 1 0\n2*post 2 1 1 0\nform",
+             "correct = 0\nreanalyse 2 1 1 0 = 0 10000 1\n2*post 2 1 1 0 = 0 10000 0\n"
+             "form 08000100020000000000 20000200 " + "ac26" * 7 + "7427" * 7 + "1027 08000300 102710271027"),
+            ("byte 6 0\nbyte 8 0\nbyte 48 16\nbyte 49 39\nrenew",
+             "byte 6 0\nbyte 8 0\nbyte 48 16\nbyte 49 39\nrenew = 0 1 0 / 6*9900 7*10100 10000 10000")):
+        same(make_calls.made(chart + asked), chart + wanted)
+    same(is_no_input(make_calls.made, chart + "all"), True)
+    same(is_no_input(make_calls.made, chart + "2*correct"), True)
+    same(is_no_input(make_calls.made, chart + "told -1 820\ncheck"), True)
+    same(is_no_input(make_calls.made, chart + "correct = 0"), True)
+    same(is_no_input(make_calls.made, "write"), True)
+    same(make_calls.numbers_of("2 820 / 3*5 -1 /"), [[2, 820], [5, 5, 5, -1], []])
+    same(make_calls.in_runs((0, 0, 1, 2, 2, 2, -3)), "0 0 1 3*2 -3")
+    with open(make_calls.ASKED, encoding="ascii") as file:
+        asked = [line.split() for line in file if not line.startswith("#")]
+    same([line for line in asked if "=" in line or line[:1] == ["form"] and len(line) > 1], [])
+
+
+def test_made_cases():
+    """The cases: their headings, and lines whose numbers are known by hand."""
+    sections = dict(make_cases.sections())
+    same(list(sections), ["Charts handed in", "Stored forms", "Lines", "Lists", "Refused starts"])
+    same(all(": refused 14, " in line for line in sections["Charts handed in"]), True)
+    lines = [line for section in sections.values() for line in section]
+    same(len(set(lines)), len(lines))
+    for line in ("A with status 9: 10000: refused 14, status 9 verdict 0",
+                 "A, 48 bytes lent: wrote 48: " + A_FORM.hex(" "),
+                 "A, 50 bytes lent: wrote 48: " + A_FORM.hex(" ") + " aa aa",
+                 "A, 47 bytes lent: refused 15:" + " aa" * 47,
+                 "A with kind 4, 9 bytes lent: refused 14:" + " aa" * 9,
+                 "C, 10002 against the lines: lower warning 0, upper warning 1, lower control 0, upper control 0",
+                 "kind 4, A's words, building: kind 0 base 0 series 0 status 0 verdict 0; base places" + " 0" * 32
+                 + "; series places" + " 0" * 366,
+                 "no bytes, reading: kind 0 base 0 series 0 status 0 verdict 0; base places" + " 0" * 32
+                 + "; series places" + " 0" * 366):
+        same(line in lines, True)
+
+
+def main():
+    for test in (test_charts_handed_in, test_calls_on_values, test_refused_starts, test_writing, test_against_lines,
+                 test_lists, test_order_for_c, test_calls_for_c, test_made_calls, test_made_cases):
+        test()
+    print("%d passed, 0 failed" % PASSED)
+
+
+if __name__ == "__main__":
+    main()
