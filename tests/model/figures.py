@@ -24,7 +24,7 @@ M = 3, (-10000,) * 7 + (-10001,) * 8
 N = 3, (-1,) * 7 + (0,) * 8
 P = 3, (1,) * 7 + (0,) * 8
 Q = 3, (0,) * 2 + (1,) + (2,) * 6 + (3,) * 5 + (4,) * 5
-T = 1, (0,) * 15
+T = 1, (0,) * 10 + (1, 12, 144, 1728, 20000)
 W = 2, (-20000,) * 16 + (20000,) * 16
 Z = 1, (1000,) * 15
 LETTERS = {"A": A, "C": C, "D": D, "E": E, "F": F, "G": G, "H": H, "K": K, "M": M, "N": N, "P": P, "Q": Q, "T": T,
@@ -465,6 +465,10 @@ LINES = (
 
 LISTS = (
     "document 01, lists: each call goes on from the chart that the call before it gave back",
+    ("A, no calls", build(A), "show", "lines"),
+    ("A, eight calls", build(A), "post 2 10250 10000 10000", "post 2 10301 10000 10000", "post 2 10000 10000 10000",
+     "reanalyse 2 10250 10000 10000", "correct", "reanalyse 2 10000 10000 10000", "post 3 1 1 10000", "renew", "show",
+     "lines"),
     ("A, a run to one side and its correction", *posted(A, *[10150] * 7), "correct", "show", "lines"),
     ("A, numbers that are no readings", build(A), "post 258 10000 10000 10000", "post 2 -1 10000 10000",
      "post 2 4294977296 10000 10000", "post 2 1000000001 0 10000", "post 2 10000 0 10000",
@@ -475,6 +479,7 @@ LISTS = (
      "renew", "renew", "post 1 1 2 10000", "show", "lines"),
     ("N, spikes", build(N), "post 3 0 1 10000", "post 3 0 2 10000", "post 3 0 2 10000", "reanalyse 3 0 3 10000",
      "correct", "reanalyse 3 1 2 10000", "post 3 30000 0 10000", "renew", "show", "lines"),
+    ("stored A, two calls", read(Chart(*A, (10301,), 1, 1)), "reanalyse 2 10301 10000 0", "correct", "show", "lines"),
     ("stored N, one call", read(Chart(*N, (), 0, 0)), "post 3 0 1 20000", "show", "lines"),
 )
 

@@ -5,7 +5,6 @@ Written from document 01, from its readings and from the description in include/
 refused call raises Refused; what was handed in or lent then still holds.
 """
 
-import struct
 from collections import namedtuple
 
 import model
@@ -73,11 +72,6 @@ def write_into(value, lent):
 
 
 # Lines
-
-def double_bits(k):
-    """Lines for the plotter: the bits of the double k / 256 as hex digits; the division is exact."""
-    return struct.pack(">d", k / model.SCALE).hex()
-
 
 def against_lines(chart, word):
     """Lines for the plotter: beyond lower warning, upper warning, lower control, upper control. Refusal 14.

@@ -5,6 +5,7 @@ python3 make_cases.py > output
 
 import sys
 
+import commands
 import interface
 import model
 from interface import built, value_of
@@ -18,8 +19,7 @@ Q = (0, 0, 1) + (2,) * 6 + (3,) * 5 + (4,) * 5
 K = (900,) * 7 + (1100,) * 7 + (1000,)
 TEN = (0,) * 10 + (1, 12, 144, 1728, 20000)
 
-LINE_NAMES = ("mean", "lower warning", "upper warning", "lower control", "upper control")
-LINE_NAMES_KIND_1 = ("mean", "upper warning", "upper control")
+LIMIT_NAMES = ("lower warning", "upper warning", "lower control", "upper control")
 
 
 def check(word):
@@ -155,30 +155,23 @@ def against_lines(label, chart, word):
     """A word against the lines of a chart."""
     try:
         beyond = interface.against_lines(chart, word)
-        text = ", ".join("%s %d" % pair for pair in zip(LINE_NAMES[1:], beyond))
+        text = ", ".join("%s %d" % pair for pair in zip(LIMIT_NAMES, beyond))
     except Refused as refused:
         text = "refused %d" % refused.number
     return "%s, %d against the lines: %s" % (label, word, text)
 
 
 def lines_text(chart):
-    """The lines of a chart: of each its name, k and the bits of its double."""
+    """The lines of a chart, as the command `lines` tells them."""
     try:
-        lines = model.lines(chart)
+        return "lines " + " ".join(map(commands.decimal, model.lines(chart)))
     except Refused as refused:
         return "refused %d" % refused.number
-    names = LINE_NAMES_KIND_1 if chart.kind == 1 else LINE_NAMES
-    return ", ".join("%s %d %s" % (name, k, interface.double_bits(k)) for name, k in zip(names, lines))
 
 
 # Lists
 
 LENT_NUMBERS = (7,) * 24
-
-
-def calls(*fours):
-    """A list of calls: of each the number, the kind and two numbers; the third is 10000."""
-    return tuple(number for four in fours for number in four + (10000,))
 
 
 FOURTEEN = (10000,) * 14
@@ -188,10 +181,8 @@ ONE_CALL = (3, 0, 0, 0, 0)
 SIX_NUMBERS = (3, 0, 0, 0, 0, 3)
 
 LISTS = (
-    ("A, no calls", built, (2, A), ()),
-    ("A, eight calls", built, (2, A),
-     calls((1, 2, 10250, 10000), (1, 2, 10301, 10000), (1, 2, 10000, 10000), (2, 2, 10250, 10000), (3, 0, 0, 0),
-           (2, 2, 10000, 10000), (1, 3, 1, 1), (4, 0, 0, 0))),
+    ("A, an empty list", built, (2, A), ()),
+    ("A, a post and a renewal", built, (2, A), (1, 2, 10250, 10000, 0, 4, 0, 0, 0, 0)),
     ("A, six numbers", built, (2, A), SIX_NUMBERS),
     ("A, call number 5", built, (2, A), (5, 0, 0, 0, 0)),
     ("A, call number 0", built, (2, A), (0, 0, 0, 0, 0)),
@@ -205,7 +196,7 @@ LISTS = (
     ("kind 4 and fourteen words, one call", built, (4, FOURTEEN), ONE_CALL),
     ("fourteen words, six numbers", built, (2, FOURTEEN), SIX_NUMBERS),
     ("fourteen words, nine calls", built, (2, FOURTEEN), (3,) * 45),
-    ("stored A, two calls", model.read, (STORED_A,), (2, 2, 10301, 10000, 0, 3, 0, 0, 0, 0)),
+    ("stored A, a reanalysis and a correction", model.read, (STORED_A,), (2, 2, 10301, 10000, 0, 3, 0, 0, 0, 0)),
     ("stored A with status 3, one call", model.read, (STORED_STATUS_3,), ONE_CALL),
     ("no bytes, one call", model.read, (b"",), ONE_CALL),
 )

@@ -7,7 +7,7 @@ import interface
 import make_calls
 import make_cases
 import model
-from interface import LentChart, against_lines, built, chart_of, double_bits, on_value, run_list, start_or_zeros
+from interface import LentChart, against_lines, built, chart_of, on_value, run_list, start_or_zeros
 from interface import value_of, write_into
 from model import Chart
 
@@ -124,11 +124,6 @@ def test_writing():
 
 def test_against_lines():
     """Lines for the plotter: doubles, and a word against them; readings 8, 9, 27, 28."""
-    same(double_bits(0), "0000000000000000")
-    same(double_bits(256), "3ff0000000000000")
-    same(double_bits(-128), "bfe0000000000000")
-    same(double_bits(2560000), "40c3880000000000")
-    same(double_bits(2560400), "40c388c800000000")
     # C has the limits 9998.98.., 9999.50.., 10001.56.. and 10002.08..
     chart = built(2, C)
     same([k / 256 for k in model.lines(chart)], [10000.53125, 9999.50390625, 10001.5625, 9998.984375, 10002.08203125])

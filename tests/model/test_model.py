@@ -491,7 +491,7 @@ def test_block():
     labels = [text for text, steps in texts if steps]
     headings = [text for text, steps in texts if not steps]
     same([label for label in labels if labels.count(label) > 1], [])
-    same(len(labels), 307)
+    same(len(labels), 310)
     found = {int(number) for heading in headings
              for numbers in re.findall(r"READINGS (\d+(?:, \d+)*)", heading) for number in numbers.split(", ")}
     # 13, 23 and 29 to 31 are about definitions, chart values handed in, the type of the lines, and lists.

@@ -7,19 +7,27 @@ pub fn words_against_lines(a: Chart) {
     say::text(b"Lines\n");
     let words = [9699, 9700, 9799, 9800, 10000, 10200, 10201, 10300, 10301];
     each_word(b"A", a, &words);
-    // The course's base C.
-    let mut base = [10000; 15];
-    crate::fill(&mut base, 7, 10001);
-    built(b"C", 2, &base, &[9998, 9999, 10000, 10001, 10002, 10003]);
+    base_c();
     // A lower warning limit just below 0.
     let base = [0, 0, 1, 2, 2, 2, 2, 2, 2, 3, 3, 3, 3, 3, 4, 4, 4, 4, 4];
     built(b"Q", 3, &base, &[-2, -1, 0, 5, 6]);
-    // Kind 1, which has no lower limits: mean 1000, S 100.
+    base_k();
+    each_word(b"chart of zeros", chart::zero_chart(), &[0]);
+}
+
+// The course's base C.
+fn base_c() {
+    let mut base = [10000; 15];
+    crate::fill(&mut base, 7, 10001);
+    built(b"C", 2, &base, &[9998, 9999, 10000, 10001, 10002, 10003]);
+}
+
+// Kind 1, which has no lower limits: mean 1000, S 100.
+fn base_k() {
     let mut base = [900; 15];
     crate::fill(&mut base, 7, 1100);
     base[14] = 1000;
     built(b"K", 1, &base, &[0, 700, 799, 1200, 1201, 1300, 1301]);
-    each_word(b"chart of zeros", chart::zero_chart(), &[0]);
 }
 
 fn built(text: &[u8], kind: u16, base: &[i16], words: &[i16]) {

@@ -5,6 +5,12 @@ use chart::Chart;
 
 pub fn charts_handed_in(a: Chart) {
     say::text(b"Charts handed in\n");
+    lengths(a);
+    unused_places(a);
+    statuses(a);
+}
+
+fn lengths(a: Chart) {
     let mut bad = a;
     bad.base_len = 9;
     post(b"A with a base of 9, posts 10000: ", bad);
@@ -13,6 +19,9 @@ pub fn charts_handed_in(a: Chart) {
     let mut bad = a;
     bad.series_len = 367;
     post(b"A with a series of 367, posts 10000: ", bad);
+}
+
+fn unused_places(a: Chart) {
     let mut bad = a;
     bad.base[15] = 1;
     say::text(b"A with a word in an unused place of the base");
@@ -21,6 +30,9 @@ pub fn charts_handed_in(a: Chart) {
     bad.series[365] = 1;
     say::text(b"A with a word in an unused place of the series");
     post(b", posts 10000: ", bad);
+}
+
+fn statuses(a: Chart) {
     let mut bad = a;
     bad.status = 9;
     post(b"A with status 9, posts 10000: ", bad);

@@ -1,43 +1,30 @@
 // Whole lists of calls: what is answered, every number of the lent buffer, the chart after the list, and its lines.
 use crate::say;
 use chart::Chart;
-use lines::LinesAnswer;
 use lists::RunAnswer;
 
 pub fn lists_run(a: Chart, words: &[i16]) {
     say::text(b"Lists\n");
-    from_words(b"A, no calls", 2, words, &[]);
-    eight_calls(words);
+    from_words(b"A, an empty list", 2, words, &[]);
+    let two = [1, 2, 10250, 10000, 0, 4, 0, 0, 0, 0];
+    from_words(b"A, a post and a renewal", 2, words, &two);
     not_lists(words);
+    no_room(words);
     not_started(words);
     stored(a);
 }
 
-// Every call, and refusals between them.
-fn eight_calls(words: &[i16]) {
-    let mut calls = [0; 40];
-    put(&mut calls, 0, [1, 2, 10250, 10000, 10000]);
-    put(&mut calls, 1, [1, 2, 10301, 10000, 10000]);
-    put(&mut calls, 2, [1, 2, 10000, 10000, 10000]);
-    put(&mut calls, 3, [2, 2, 10250, 10000, 10000]);
-    put(&mut calls, 4, [3, 0, 0, 0, 10000]);
-    put(&mut calls, 5, [2, 2, 10000, 10000, 10000]);
-    put(&mut calls, 6, [1, 3, 1, 1, 10000]);
-    put(&mut calls, 7, [4, 0, 0, 0, 10000]);
-    run_eight(words, &calls);
-}
-
-fn run_eight(words: &[i16], calls: &[i64; 40]) {
-    from_words(b"A, eight calls", 2, words, calls);
-}
-
-// Numbers that are no list, and a list without room.
+// Numbers that are no list.
 fn not_lists(words: &[i16]) {
-    from_words(b"A, six numbers", 2, words, &[3, 0, 0, 0, 0, 3]);
-    from_words(b"A, call number 5", 2, words, &[5, 0, 0, 0, 0]);
-    from_words(b"A, call number 0", 2, words, &[0, 0, 0, 0, 0]);
-    from_words(b"A, call number -1", 2, words, &[-1, 0, 0, 0, 0]);
-    from_words(b"A, call number 65537", 2, words, &[65537, 2, 1, 1, 0]);
+    from_words(b"A, six numbers", 2, words, &[3; 6]);
+    one_call(b"A, call number 5", 2, words, 5);
+    one_call(b"A, call number 0", 2, words, 0);
+    one_call(b"A, call number -1", 2, words, -1);
+    one_call(b"A, call number 65537", 2, words, 65537);
+}
+
+// More of them, and a list without room.
+fn no_room(words: &[i16]) {
     let later = [3, 0, 0, 0, 0, 9, 0, 0, 0, 0];
     from_words(b"A, a later call number 9", 2, words, &later);
     from_words(b"A, nine calls and a number", 2, words, &[3; 46]);
@@ -46,11 +33,10 @@ fn not_lists(words: &[i16]) {
 
 // Words that building declines, with a list that can be run, one that is none, and one without room.
 fn not_started(words: &[i16]) {
-    let one = [3, 0, 0, 0, 0];
     let few = [10000; 14];
-    from_words(b"fourteen words, one call", 2, &few, &one);
-    from_words(b"kind 4, one call", 4, words, &one);
-    from_words(b"kind 4 and fourteen words, one call", 4, &few, &one);
+    one_call(b"fourteen words, one call", 2, &few, 3);
+    one_call(b"kind 4, one call", 4, words, 3);
+    one_call(b"kind 4 and fourteen words, one call", 4, &few, 3);
     from_words(b"fourteen words, six numbers", 2, &few, &[3; 6]);
     from_words(b"fourteen words, nine calls", 2, &few, &[3; 45]);
 }
@@ -62,7 +48,7 @@ fn stored(a: Chart) {
     let posted = a.post(2, 10301, 10000, 0);
     let mut form = [0; 50];
     store::write(posted.chart, &mut form);
-    from_bytes(b"stored A, two calls", &form, &two);
+    from_bytes(b"stored A, a reanalysis and a correction", &form, &two);
     form[6] = 3;
     from_bytes(b"stored A with status 3, one call", &form, &one);
     from_bytes(b"no bytes, one call", &[], &one);
@@ -70,15 +56,8 @@ fn stored(a: Chart) {
 
 // ---- a list that is run
 
-// The call at place i.
-fn put(calls: &mut [i64; 40], i: usize, call: [i64; 5]) {
-    if i < 8 {
-        calls[5 * i] = call[0];
-        calls[5 * i + 1] = call[1];
-        calls[5 * i + 2] = call[2];
-        calls[5 * i + 3] = call[3];
-        calls[5 * i + 4] = call[4];
-    }
+fn one_call(text: &[u8], kind: u16, words: &[i16], number: i64) {
+    from_words(text, kind, words, &[number, 0, 0, 0, 0]);
 }
 
 fn from_words(text: &[u8], kind: u16, words: &[i16], calls: &[i64]) {
@@ -102,10 +81,9 @@ fn run(text: &[u8], r: lists::Run, answers: &[i64]) {
     say::numbers(r.chart);
     say::text(b"; ");
     let lines = r.lines;
-    match lines {
-        LinesAnswer::Done(l) => each_line(l),
-        LinesAnswer::Refused(n) => say::refusal(n),
-    }
+    let mut out = [0; 256];
+    let size = replies::put_lines(&mut out, lines);
+    say::front(&out, size);
     say::text(b"\n");
 }
 
@@ -125,26 +103,5 @@ fn each_number(numbers: &[i64]) {
         say::text(b" ");
         say::signed(numbers[i]);
         i += 1;
-    }
-}
-
-// No list that is run here is of kind 1, whose lines are three.
-fn each_line(l: lines::Lines) {
-    if let lines::Lines::TwoSided(five) = l {
-        one_line(b"mean ", five.mean);
-        one_line(b", lower warning ", five.lower_warning);
-        one_line(b", upper warning ", five.upper_warning);
-        one_line(b", lower control ", five.lower_control);
-        one_line(b", upper control ", five.upper_control);
-    }
-}
-
-// Its whole number of 256ths, and its bits. A line is never a NaN, which alone does not equal itself.
-fn one_line(name: &[u8], line: f64) {
-    say::text(name);
-    say::signed(lines::parts_in(line));
-    say::text(b" ");
-    if line == line {
-        io::print_hex(libc::STDOUT_FILENO, f64::to_bits(line), 16);
     }
 }

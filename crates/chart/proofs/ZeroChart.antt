@@ -1,0 +1,21 @@
+-- The chart of zeros, which a refused build and a refused read give: it is the chart that stands for the state of kind 0 with no words
+-- (`zeros-state`), so that every number and every place of it is 0; and it is not sound (`zeros-not-sound`).
+use mathlib.Core.Path.{_≡_, refl}
+use mathlib.Core.Bool.{false}
+use mathlib.Core.List.{[]}
+use Rattle.guide.specs.AllOf.{allOf}
+use Rattle.guide.specs.Kind.{isKind}
+use Rattle.guide.specs.State.{fresh}
+use Rattle.guide.specs.Soundness.{wordsSound, sound}
+use Rattle.chart.specs.Pad.{pad}
+use Rattle.chart.specs.Chart.{stateOf, chartOf, freshChart, zeroChart}
+use Rattle.chart.specs.Soundness.{isZero, unusedHoldZero, placesSound, soundChart}
+
+pub zeros-state : zeroChart ≡ chartOf (fresh 0 [])
+unfolding zeroChart freshChart chartOf fresh pad
+zeros-state = refl
+
+-- no chart is of kind 0
+pub zeros-not-sound : soundChart zeroChart ≡ false
+unfolding zeroChart freshChart stateOf soundChart placesSound unusedHoldZero isZero allOf sound wordsSound isKind
+zeros-not-sound = refl
