@@ -1,5 +1,5 @@
 -- Document 01, "Figures from the course": the starred figures. A row is what the definitions give, and what the course says, as
--- numbers. `proofs/Figures` covers the table by one theorem; the figures without a star are run by the program `course`.
+-- numbers. `proofs/Figures` covers the table by one theorem; the figures without a star are among the vectors of `control_chart`.
 use mathlib.Core.Bool.{Bool, true, false}
 use mathlib.Core.List.{List, [], _∷_, _++_, map}
 use Prim.Native.Nat.{ℕ, _+_, _*_, _-_}
