@@ -1,4 +1,6 @@
-"""Makes the expected output of the program cases: labels and inputs stand here, every answer comes from the model.
+"""Makes the labels that the program cases reads, and its expected output: each label with its answer.
+
+Labels and inputs stand here, in the order in which the program runs the cases. Every answer comes from the model.
 
 python3 make_cases.py > output
 """
@@ -11,6 +13,7 @@ import model
 from interface import built, value_of
 from model import Chart, Refused
 
+LABELS = "crates/cases/stdin"
 PATH = "crates/cases/stdout"
 
 A = (9900,) * 7 + (10100,) * 7 + (10000,)
@@ -42,7 +45,7 @@ def blank_before(numbers):
 
 def lengths(chart):
     """Kind, lengths, status and verdict of a chart."""
-    return "kind %d base %d series %d status %d verdict %d" % (
+    return "chart kind %d base %d series %d status %d verdict %d" % (
         chart.kind, len(chart.base), len(chart.series), chart.status, chart.verdict)
 
 
@@ -90,7 +93,7 @@ def handed_in(label, value, call):
         text = outcome(call, answer)
     except Refused as refused:
         text = "refused %d" % refused.number
-    return "%s: %s, status %d verdict %d" % (label, text, value.status, value.verdict)
+    return label, "%s, status %d verdict %d" % (text, value.status, value.verdict)
 
 
 # Stored forms
@@ -126,7 +129,7 @@ def written(label, value, count):
         text = "wrote %d" % interface.write_into(value, lent)
     except Refused as refused:
         text = "refused %d" % refused.number
-    return "%s, %d bytes lent: %s: %s" % (label, count, text, lent.hex(" "))
+    return "%s, %d bytes lent" % (label, count), "%s: %s" % (text, lent.hex(" "))
 
 
 def read_back(label, value, count):
@@ -135,9 +138,9 @@ def read_back(label, value, count):
     try:
         chart = model.read(bytes(lent[:interface.write_into(value, lent)]))
     except Refused as refused:
-        return "%s: refused %d" % (label, refused.number)
-    return "%s: kind %d base of %d:%s; series of %d:%s, status %d verdict %d" % (
-        label, chart.kind, len(chart.base), blank_before(chart.base),
+        return label, "refused %d" % refused.number
+    return label, "kind %d base of %d:%s; series of %d:%s, status %d verdict %d" % (
+        chart.kind, len(chart.base), blank_before(chart.base),
         len(chart.series), blank_before(chart.series), chart.status, chart.verdict)
 
 
@@ -158,7 +161,7 @@ def against_lines(label, chart, word):
         text = ", ".join("%s %d" % pair for pair in zip(LIMIT_NAMES, beyond))
     except Refused as refused:
         text = "refused %d" % refused.number
-    return "%s, %d against the lines: %s" % (label, word, text)
+    return "%s, %d against the lines" % (label, word), text
 
 
 def lines_text(chart):
@@ -205,7 +208,7 @@ LISTS = (
 def listed(label, start, given, numbers):
     """A list of calls: its answer, the lent numbers, the chart after it and its lines."""
     answer, lent, chart = interface.run_list(start, given, numbers, LENT_NUMBERS)
-    return "%s: %s; answers%s; chart %s; %s" % (label, answer, blank_before(lent), lengths(chart), lines_text(chart))
+    return label, "%s; answers%s; %s; %s" % (answer, blank_before(lent), lengths(chart), lines_text(chart))
 
 
 # Refused starts
@@ -220,12 +223,12 @@ def refused_start(label, start, given):
     """The chart that a refused build or read gives, with every place."""
     chart = interface.start_or_zeros(start, *given)
     value = value_of(chart)
-    return "%s: %s; base places%s; series places%s" % (
-        label, lengths(chart), blank_before(value.base), blank_before(value.series))
+    return label, "%s; base places%s; series places%s" % (
+        lengths(chart), blank_before(value.base), blank_before(value.series))
 
 
 def sections():
-    """The headings, each with its lines."""
+    """The headings, each with its cases: label and answer."""
     return (
         ("Charts handed in", [handed_in(*case) for case in HANDED_IN]),
         ("Stored forms", [written(*case) for case in WRITTEN] + [read_back(*case) for case in READ_BACK]),
@@ -237,9 +240,14 @@ def sections():
 
 
 def files():
-    """The file that is made, by its path from the root of the repository."""
-    text = "".join("%s\n%s" % (heading, "".join(line + "\n" for line in lines)) for heading, lines in sections())
-    return {PATH: text.encode("ascii")}
+    """The files that are made, by their paths from the root of the repository."""
+    labels = []
+    output = []
+    for heading, cases in sections():
+        labels += [heading] + [label for label, _ in cases]
+        output += [heading] + ["%s: %s" % case for case in cases]
+    return {path: "".join(line + "\n" for line in lines).encode("ascii")
+            for path, lines in ((LABELS, labels), (PATH, output))}
 
 
 if __name__ == "__main__":

@@ -328,18 +328,23 @@ def test_made_cases():
     """The cases: their headings, and lines whose numbers are known by hand."""
     sections = dict(make_cases.sections())
     same(list(sections), ["Charts handed in", "Stored forms", "Lines", "Lists", "Refused starts"])
-    same(all(": refused 14, " in line for line in sections["Charts handed in"]), True)
-    lines = [line for section in sections.values() for line in section]
-    same(len(set(lines)), len(lines))
+    same(all(answer.startswith("refused 14, ") for _, answer in sections["Charts handed in"]), True)
+    made = make_cases.files()
+    labels = made["crates/cases/stdin"].decode().splitlines()
+    lines = made["crates/cases/stdout"].decode().splitlines()
+    same(len(labels), 77)
+    same(len(set(labels)), len(labels))
+    same([line for label, line in zip(labels, lines) if not line.startswith(label)], [])
+    same(len(labels), len(lines))
     for line in ("A with status 9: 10000: refused 14, status 9 verdict 0",
                  "A, 48 bytes lent: wrote 48: " + A_FORM.hex(" "),
                  "A, 50 bytes lent: wrote 48: " + A_FORM.hex(" ") + " aa aa",
                  "A, 47 bytes lent: refused 15:" + " aa" * 47,
                  "A with kind 4, 9 bytes lent: refused 14:" + " aa" * 9,
                  "C, 10002 against the lines: lower warning 0, upper warning 1, lower control 0, upper control 0",
-                 "kind 4, A's words, building: kind 0 base 0 series 0 status 0 verdict 0; base places" + " 0" * 32
+                 "kind 4, A's words, building: chart kind 0 base 0 series 0 status 0 verdict 0; base places" + " 0" * 32
                  + "; series places" + " 0" * 366,
-                 "no bytes, reading: kind 0 base 0 series 0 status 0 verdict 0; base places" + " 0" * 32
+                 "no bytes, reading: chart kind 0 base 0 series 0 status 0 verdict 0; base places" + " 0" * 32
                  + "; series places" + " 0" * 366):
         same(line in lines, True)
 

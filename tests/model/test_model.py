@@ -557,8 +557,8 @@ def test_expected():
                  "1 of 2 files are not as the model makes them\n"))
     for arguments in (["--chek"], ["--check", "--check"], [""]):
         same(said(expected.main, arguments), (2, "", "usage: python3 tests/model/expected.py [--check]\n"))
-    same(sorted(expected.made()), ["crates/cases/stdout", "crates/control_chart/stdin", "crates/control_chart/stdout",
-                                   "tests/clients/calls.txt"])
+    same(sorted(expected.made()), ["crates/cases/stdin", "crates/cases/stdout", "crates/control_chart/stdin",
+                                   "crates/control_chart/stdout", "tests/clients/calls.txt"])
 
 
 def main():

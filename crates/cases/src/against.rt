@@ -4,56 +4,53 @@ use crate::say;
 use chart::Chart;
 
 pub fn words_against_lines(a: Chart) {
-    say::text(b"Lines\n");
+    say::heading();
     let words = [9699, 9700, 9799, 9800, 10000, 10200, 10201, 10300, 10301];
-    each_word(b"A", a, &words);
+    each_word(a, &words);
     base_c();
     // A lower warning limit just below 0.
     let base = [0, 0, 1, 2, 2, 2, 2, 2, 2, 3, 3, 3, 3, 3, 4, 4, 4, 4, 4];
-    built(b"Q", 3, &base, &[-2, -1, 0, 5, 6]);
+    built(3, &base, &[-2, -1, 0, 5, 6]);
     base_k();
-    each_word(b"chart of zeros", chart::zero_chart(), &[0]);
+    each_word(chart::zero_chart(), &[0]);
 }
 
 // The course's base C.
 fn base_c() {
     let mut base = [10000; 15];
     crate::fill(&mut base, 7, 10001);
-    built(b"C", 2, &base, &[9998, 9999, 10000, 10001, 10002, 10003]);
+    built(2, &base, &[9998, 9999, 10000, 10001, 10002, 10003]);
 }
 
-// Kind 1, which has no lower limits: mean 1000, S 100.
+// Base K, of kind 1, which has no lower limits: mean 1000, S 100.
 fn base_k() {
     let mut base = [900; 15];
     crate::fill(&mut base, 7, 1100);
     base[14] = 1000;
-    built(b"K", 1, &base, &[0, 700, 799, 1200, 1201, 1300, 1301]);
+    built(1, &base, &[0, 700, 799, 1200, 1201, 1300, 1301]);
 }
 
-fn built(text: &[u8], kind: u16, base: &[i16], words: &[i16]) {
+fn built(kind: u16, base: &[i16], words: &[i16]) {
     let r = Chart::build(kind, base);
-    each_word(text, r.chart, words);
+    each_word(r.chart, words);
 }
 
-fn each_word(text: &[u8], chart: Chart, words: &[i16]) {
+fn each_word(chart: Chart, words: &[i16]) {
     let mut i: usize = 0;
     while i < words.len() {
-        say::text(text);
         one_word(chart, words[i]);
         i += 1;
     }
 }
 
 fn one_word(chart: Chart, word: i16) {
-    say::text(b", ");
-    say::signed(word as i64);
-    say::text(b" against the lines: ");
+    say::label();
     let answer = lines::against_lines(chart, word);
     match answer {
         lines::AgainstAnswer::Done(b) => beyond(b),
         lines::AgainstAnswer::Refused(n) => say::refusal(n),
     }
-    say::text(b"\n");
+    say::end_of_line();
 }
 
 fn beyond(b: lines::BeyondEach) {

@@ -1,6 +1,7 @@
 // Runs what no command of `control_chart` can express, and says what comes: charts handed in that no call gives, lent buffers, a chart
-// written and read back, words against a chart's lines, and whole lists of calls. `tests/model` makes the file `stdout` that it is
-// compared with. Functions here only say something, of which no contract can speak.
+// written and read back, words against a chart's lines, and whole lists of calls. The label of each case comes on standard input, a line
+// for each case in turn, and its answer is said behind it. `tests/model` makes both files, `stdin` and the `stdout` that is compared.
+// Functions here only say something, of which no contract can speak.
 mod against;
 mod forms;
 mod handed_in;

@@ -5,6 +5,38 @@ pub fn text(bytes: &[u8]) {
     io::write_all(libc::STDOUT_FILENO, bytes);
 }
 
+pub fn end_of_line() {
+    text(b"\n");
+}
+
+// The label of the next case.
+pub fn label() {
+    echo_line();
+    text(b": ");
+}
+
+// A line that stands by itself.
+pub fn heading() {
+    echo_line();
+    end_of_line();
+}
+
+// The next line of standard input, without its line feed. None has more than 100 bytes.
+fn echo_line() {
+    let mut byte = [0u8; 1];
+    let mut left: usize = 100;
+    while 0 < left {
+        if io::read_full(libc::STDIN_FILENO, &mut byte) == 0 {
+            return;
+        }
+        if byte[0] == b'\n' {
+            return;
+        }
+        text(&byte);
+        left -= 1;
+    }
+}
+
 // The text at the front of a buffer. `replies` and `printing` answer its size, which is never more than the buffer's.
 pub fn front(out: &[u8], size: usize) {
     if size <= out.len() {
@@ -47,9 +79,10 @@ pub fn status(chart: Chart) {
 
 // Kind, lengths, status and open verdict.
 pub fn numbers(chart: Chart) {
-    named(b"kind ", chart.kind as u64);
+    named(b"chart kind ", chart.kind as u64);
     named(b" base ", chart.base_len as u64);
     named(b" series ", chart.series_len as u64);
     named(b" status ", chart.status as u64);
     named(b" verdict ", chart.open_verdict as u64);
+    text(b"; ");
 }

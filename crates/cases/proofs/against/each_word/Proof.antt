@@ -6,16 +6,13 @@ use Rattle.cases.proofs.against.each_word.Statement.{statement}
 use Rattle.cases.proofs.against.each_word.Tie as tie
 
 abbrev Inv-loop : tie.InvT-loop
-Inv-loop text chart words i₀ i = i ≤ length words
+Inv-loop chart words i₀ i = i ≤ length words
 
 abbrev μ-loop : tie.MeasureT-loop
-μ-loop text chart words i₀ i = length words - i
+μ-loop chart words i₀ i = length words - i
 
 loop-holds : tie.Need-loop-holds Inv-loop μ-loop
 loop-holds c = search needs
-
-text-requires : tie.Need-text-requires Inv-loop μ-loop
-text-requires c κs = search needs
 
 mul-one-word : tie.Need-mul-one-word Inv-loop μ-loop
 mul-one-word c = search needs
@@ -45,7 +42,6 @@ each-word-spec =
     Inv-loop
     μ-loop
     loop-holds
-    text-requires
     mul-one-word
     shared-slice-copy-out-one-word
     one-word-requires
