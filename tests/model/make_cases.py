@@ -61,36 +61,21 @@ def base_with(place, word):
 
 
 HANDED_IN = (
-    ("A with a base of 9, posts 10000", value_of(Chart(2, A[:9], (), 0, 0)), model.post),
-    ("A with a base of 33, posts 10000", LONG_VALUE, model.post),
-    ("A with a series of 367, posts 10000", A_VALUE._replace(series=(10000,) * 366, series_len=367), model.post),
-    ("A with a word in an unused place of the base, posts 10000", base_with(31, 10000), model.post),
+    ("A with a base of 9, posts 10000", value_of(Chart(2, A[:9], (), 0, 0))),
+    ("A with a base of 33, posts 10000", LONG_VALUE),
+    ("A with a series of 367, posts 10000", A_VALUE._replace(series=(10000,) * 366, series_len=367)),
+    ("A with a word in an unused place of the base, posts 10000", base_with(31, 10000)),
     ("A with a word in an unused place of the series, posts 10000",
-     A_VALUE._replace(series=(0,) * 365 + (10000,)), model.post),
-    ("A with status 9, posts 10000", A_VALUE._replace(status=9), model.post),
-    ("A with status 9: 10000", A_VALUE._replace(status=9), model.reanalyse),
-    ("A with status 9, correction", A_VALUE._replace(status=9), model.correct),
-    ("A with status 9, renewal", A_VALUE._replace(status=9), model.renew),
+     A_VALUE._replace(series=(0,) * 365 + (10000,))),
+    ("A with status 9, posts 10000", A_VALUE._replace(status=9)),
 )
 
 
-def outcome(call, answer):
-    """The answer of a call on a chart, as text."""
-    if call is model.post:
-        return "%d" % answer[1]
-    if call is model.reanalyse:
-        return "passed" if answer[1] else "failed"
-    if call is model.correct:
-        return "corrected"
-    return "rounds %d removed %d" % tuple(answer)
-
-
-def handed_in(label, value, call):
-    """A call on a chart value: the answer, then status and verdict of the value that it gives back."""
-    given = check(10000) if call in (model.post, model.reanalyse) else ()
+def handed_in(label, value):
+    """A post of 10000 on a chart value: the answer, then status and verdict of the value that it gives back."""
     try:
-        value, *answer = interface.on_value(value, call, *given)
-        text = outcome(call, answer)
+        value, word, verdict = interface.on_value(value, model.post, *check(10000))
+        text = "word %d verdict %d" % (word, verdict)
     except Refused as refused:
         text = "refused %d" % refused.number
     return label, "%s, status %d verdict %d" % (text, value.status, value.verdict)

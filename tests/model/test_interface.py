@@ -332,11 +332,11 @@ def test_made_cases():
     made = make_cases.files()
     labels = made["crates/cases/stdin"].decode().splitlines()
     lines = made["crates/cases/stdout"].decode().splitlines()
-    same(len(labels), 77)
+    same(len(labels), 74)
     same(len(set(labels)), len(labels))
     same([line for label, line in zip(labels, lines) if not line.startswith(label)], [])
     same(len(labels), len(lines))
-    for line in ("A with status 9: 10000: refused 14, status 9 verdict 0",
+    for line in ("A with status 9, posts 10000: refused 14, status 9 verdict 0",
                  "A, 48 bytes lent: wrote 48: " + A_FORM.hex(" "),
                  "A, 50 bytes lent: wrote 48: " + A_FORM.hex(" ") + " aa aa",
                  "A, 47 bytes lent: refused 15:" + " aa" * 47,

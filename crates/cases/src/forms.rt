@@ -29,20 +29,29 @@ fn written(a: Chart, due: Chart, bad: Chart) {
     write(long, 50);
 }
 
-// With words below 0, the shortest base and the longest series; a chart and a buffer that writing declines.
 fn returned(a: Chart, due: Chart, bad: Chart) {
     read_back(a, 1024);
     read_back(due, 1024);
-    let spike = Chart::build(3, &[-313; 15]);
-    read_back(spike.chart, 1024);
-    let ten = Chart::build(1, &[0, 0, 0, 0, 0, 0, 0, 0, 0, 0, 1, 12, 144, 1728, 20000]);
-    read_back(ten.chart, 1024);
+    built_and_returned(3, &[-313; 15]);
+    built_and_returned(1, &[0, 0, 0, 0, 0, 0, 0, 0, 0, 0, 1, 12, 144, 1728, 20000]);
+    longest_returned(a);
+    // What writing declines.
+    read_back(bad, 1024);
+    read_back(a, 47);
+}
+
+// Words below 0; the shortest base.
+fn built_and_returned(kind: u16, words: &[i16]) {
+    let r = Chart::build(kind, words);
+    read_back(r.chart, 1024);
+}
+
+// The longest series.
+fn longest_returned(a: Chart) {
     let mut full = a;
     full.series = [10000; Chart::SERIES_MOST];
     full.series_len = Chart::SERIES_MOST;
     read_back(full, 1024);
-    read_back(bad, 1024);
-    read_back(a, 47);
 }
 
 // Writes the chart into so many lent bytes, at most 64.

@@ -1,5 +1,5 @@
-// Charts handed in that no call and no stored form gives, and a status that there is not. None is sound: every call refuses the chart with
-// 14 and gives back the very chart that came.
+// Charts handed in that no call and no stored form gives, and a status that there is not. None is sound: a post refuses the chart with 14
+// and gives back the very chart that came. The clients of the C interface try every call on forms that are not sound.
 use crate::say;
 use chart::Chart;
 
@@ -19,55 +19,19 @@ pub fn charts_handed_in(a: Chart) {
     let mut bad = a;
     bad.series[365] = 1;
     post(bad);
-    statuses(a);
-}
-
-fn statuses(a: Chart) {
     let mut bad = a;
     bad.status = 9;
     post(bad);
-    reanalyse(bad);
-    correct(bad);
-    renew(bad);
 }
 
-// ---- a call, with the reading of 10000; and the status and the verdict of the chart that it gives back
-
+// The answer to the reading of 10000, and the status and the verdict of the chart that is given back.
 fn post(chart: Chart) {
+    say::label();
     let r = chart.post(2, 10000, 10000, 0);
     let answer = r.answer;
     let mut out = [0; 64];
     let size = replies::put_post(&mut out, answer);
-    answered(&out, size, r.chart);
-}
-
-fn reanalyse(chart: Chart) {
-    let r = chart.reanalyse(2, 10000, 10000, 0);
-    let answer = r.answer;
-    let mut out = [0; 64];
-    let size = replies::put_reanalysis(&mut out, answer);
-    answered(&out, size, r.chart);
-}
-
-fn correct(chart: Chart) {
-    let r = chart.correct();
-    let answer = r.answer;
-    let mut out = [0; 64];
-    let size = replies::put_correction(&mut out, answer);
-    answered(&out, size, r.chart);
-}
-
-fn renew(chart: Chart) {
-    let r = chart.renew();
-    let answer = r.answer;
-    let mut out = [0; 64];
-    let size = replies::put_renewal(&mut out, answer);
-    answered(&out, size, r.chart);
-}
-
-fn answered(out: &[u8], size: usize, chart: Chart) {
-    say::label();
-    say::front(out, size);
-    say::status(chart);
+    say::front(&out, size);
+    say::status(r.chart);
     say::end_of_line();
 }

@@ -35,15 +35,24 @@ fn not_started(words: &[i16]) {
     from_words(2, &few, &[3; 45]);
 }
 
-// From the stored form of A after the post of 10301: a reanalysis and a correction. From the same with status 3, and from no bytes.
+// From the stored form of A after the post of 10301: a reanalysis and a correction.
 fn stored(a: Chart) {
-    let posted = a.post(2, 10301, 10000, 0);
+    let mut due = a;
+    due.series[0] = 10301;
+    due.series_len = 1;
+    due.status = 1;
+    due.open_verdict = 1;
     let mut form = [0; 50];
-    store::write(posted.chart, &mut form);
+    store::write(due, &mut form);
     from_bytes(&form, &[2, 2, 10301, 10000, 0, 3, 0, 0, 0, 0]);
     form[6] = 3;
+    not_stored(&form);
+}
+
+// From the same with status 3, and from no bytes.
+fn not_stored(form: &[u8]) {
     let one = [3, 0, 0, 0, 0];
-    from_bytes(&form, &one);
+    from_bytes(form, &one);
     from_bytes(&[], &one);
 }
 
