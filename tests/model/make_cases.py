@@ -11,7 +11,7 @@ import commands
 import interface
 import model
 from interface import built, value_of
-from model import Chart, Refused
+from model import Refused
 
 LABELS = "crates/cases/stdin"
 PATH = "crates/cases/stdout"
@@ -52,7 +52,7 @@ def lengths(chart):
 # Charts handed in
 
 A_VALUE = value_of(built(2, A))
-LONG_VALUE = A_VALUE._replace(base=A + A + (10000,) * 2, base_len=33)
+LONG_VALUE = A_VALUE._replace(base_len=33)
 
 
 def base_with(place, word):
@@ -61,12 +61,12 @@ def base_with(place, word):
 
 
 HANDED_IN = (
-    ("A with a base of 9, posts 10000", value_of(Chart(2, A[:9], (), 0, 0))),
+    ("A with a base of 9, posts 10000", A_VALUE._replace(base_len=9)),
     ("A with a base of 33, posts 10000", LONG_VALUE),
-    ("A with a series of 367, posts 10000", A_VALUE._replace(series=(10000,) * 366, series_len=367)),
-    ("A with a word in an unused place of the base, posts 10000", base_with(31, 10000)),
+    ("A with a series of 367, posts 10000", A_VALUE._replace(series_len=367)),
+    ("A with a word in an unused place of the base, posts 10000", base_with(15, 1)),
     ("A with a word in an unused place of the series, posts 10000",
-     A_VALUE._replace(series=(0,) * 365 + (10000,))),
+     A_VALUE._replace(series=(0,) * 365 + (1,))),
     ("A with status 9, posts 10000", A_VALUE._replace(status=9)),
 )
 
@@ -160,13 +160,11 @@ def lines_text(chart):
 # Lists
 
 LENT_NUMBERS = (7,) * 24
-
-
 FOURTEEN = (10000,) * 14
 STORED_A = model.write(posted(10301))
 STORED_STATUS_3 = model.stored_form(posted(10301)._replace(status=3))
 ONE_CALL = (3, 0, 0, 0, 0)
-SIX_NUMBERS = (3, 0, 0, 0, 0, 3)
+SIX_NUMBERS = (3,) * 6
 
 LISTS = (
     ("A, an empty list", built, (2, A), ()),
@@ -175,7 +173,7 @@ LISTS = (
     ("A, call number 5", built, (2, A), (5, 0, 0, 0, 0)),
     ("A, call number 0", built, (2, A), (0, 0, 0, 0, 0)),
     ("A, call number -1", built, (2, A), (-1, 0, 0, 0, 0)),
-    ("A, call number 65537", built, (2, A), (65537, 2, 1, 1, 0)),
+    ("A, call number 65537", built, (2, A), (65537, 0, 0, 0, 0)),
     ("A, a later call number 9", built, (2, A), (3, 0, 0, 0, 0, 9, 0, 0, 0, 0)),
     ("A, nine calls and a number", built, (2, A), (3,) * 46),
     ("A, nine calls", built, (2, A), (3,) * 45),

@@ -15,7 +15,7 @@ pub fn words_against_lines(a: Chart) {
     each_word(chart::zero_chart(), &[0]);
 }
 
-// The course's base C.
+// Document 01's base C.
 fn base_c() {
     let mut base = [10000; 15];
     crate::fill(&mut base, 7, 10001);

@@ -1,5 +1,5 @@
-// Charts handed in that no call and no stored form gives, and a status that there is not. None is sound: a post refuses the chart with 14
-// and gives back the very chart that came. The clients of the C interface try every call on forms that are not sound.
+// Charts handed in that no call and no stored form gives, and one with status 9, which there is not. None is sound: a post refuses the chart
+// with 14. Of the chart that it gives back, status and verdict are said. The clients of the C interface try every call on such forms.
 use crate::say;
 use chart::Chart;
 

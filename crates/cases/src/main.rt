@@ -1,7 +1,7 @@
 // Runs what no command of `control_chart` can express, and says what comes: charts handed in that no call gives, lent buffers, a chart
 // written and read back, words against a chart's lines, and whole lists of calls. The label of each case comes on standard input, a line
 // for each case in turn, and its answer is said behind it. `tests/model` makes both files, `stdin` and the `stdout` that is compared.
-// Functions here only say something, of which no contract can speak.
+// All functions but `fill` only say something, of which no contract can speak.
 mod against;
 mod forms;
 mod handed_in;
@@ -11,7 +11,7 @@ mod say;
 use chart::Chart;
 
 fn main() {
-    // The course's base A, of kind 2: mean 10000, S 100.
+    // Document 01's base A, of kind 2: mean 10000, S 100.
     let mut words = [9900; 15];
     fill(&mut words, 7, 10100);
     words[14] = 10000;
