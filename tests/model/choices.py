@@ -222,23 +222,22 @@ class Record:
         self.lines = []
         self.answers = []
         self.charts = []
+        self.status = 0
         self.table = {}
 
     def count(self, key):
         self.table[key] = self.table.get(key, 0) + 1
 
     def raw(self, line, end=b"\n"):
-        """One line of bytes; its end is a line feed, with or without a carriage return, or nothing."""
+        """One line of bytes; its end is a line feed or nothing, with or without a carriage return."""
         before = self.chart
+        whole = line + end
         self.charts.append(before)
-        self.lines.append(line + end)
-        if end == b"":
-            seen = line
-        else:
-            seen = (line + end)[:-1]
-            seen = seen[:-1] if seen.endswith(b"\r") else seen
-        self.chart, answer = commands.step(before, seen)
+        self.lines.append(whole)
+        seen = commands.bare(whole[:-1] if whole.endswith(b"\n") else whole)
+        self.chart, answer, status = commands.step(before, seen)
         self.answers.append(answer)
+        self.status = max(self.status, status)
         self.note(before, seen, answer)
         return answer
 

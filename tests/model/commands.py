@@ -1,6 +1,8 @@
 """The command language of the program control_chart, answered by the model.
 
 python3 commands.py < commands > answers
+
+It ends with the highest exit status of the answers.
 """
 
 import re
@@ -9,6 +11,7 @@ import sys
 import model
 
 LINE_MOST = 8191
+MARK = b"\xef\xbb\xbf"
 READING_LOWEST = -(1 << 63)
 READING_HIGHEST = (1 << 63) - 1
 
@@ -20,6 +23,9 @@ EXTRA = b"error: extra number; control_chart help shows what each command takes"
 NOT_HEX = b"error: not a hex digit; hex digits are 0 to 9 and a to f"
 ODD_HEX = b"error: odd number of hex digits; a byte has two"
 TOO_LONG = b"error: line too long; a line has at most 8191 bytes"
+
+# Exit status: work goes on, the batch is held, the call is refused, the line is in error.
+GO_ON, HOLD, REFUSED, ERROR = 0, 1, 2, 3
 
 
 class Malformed(Exception):
@@ -132,49 +138,86 @@ def call(chart, command, fields):
     return chart, shown(chart)
 
 
-def step(chart, line):
-    """One line, without its line feed and the carriage return before it.
+def fields_of(line):
+    """Blanks: the fields of a line."""
+    return [field for field in re.split(rb"[ \t]+", line) if field]
 
-    Gives the next chart and the answer line, or None where nothing is written.
+
+def command_of(line):
+    """Comments: the first field of a line, or None where the line is empty or a comment."""
+    fields = fields_of(line)
+    return None if not fields or fields[0].startswith(b"#") else fields[0]
+
+
+def step(chart, line):
+    """One line, bare.
+
+    Gives the next chart, the answer line and the exit status; None and 0 where nothing is written.
     """
     if len(line) > LINE_MOST:
-        return chart, TOO_LONG
-    fields = [field for field in re.split(rb"[ \t]+", line) if field]
-    if not fields or fields[0].startswith(b"#"):
-        return chart, None
+        return chart, TOO_LONG, ERROR
+    command = command_of(line)
+    if command is None:
+        return chart, None, GO_ON
     try:
-        chart, answer = call(chart, fields[0], fields[1:])
-        return chart, answer.encode("ascii")
+        chart, answer = call(chart, command, fields_of(line)[1:])
     except model.Refused as refused:
-        return chart, b"refused %d" % refused.number
+        return chart, b"refused %d" % refused.number, REFUSED
     except Malformed as malformed:
-        return chart, malformed.answer
+        return chart, malformed.answer, ERROR
+    # A post or a reanalysis that does not leave the chart free holds the batch.
+    held = command in (b"post", b"reanalyse") and chart.status != 0
+    return chart, answer.encode("ascii"), HOLD if held else GO_ON
+
+
+def status(answer):
+    """Exit status: that of an answer, by its text alone. step works it out from what happened."""
+    if answer.startswith(b"error:"):
+        return ERROR
+    if answer.startswith(b"refused "):
+        return REFUSED
+    return HOLD if re.fullmatch(rb"word -?[0-9]+ (verdict [1-4]|failed)", answer) else GO_ON
+
+
+def bare(line):
+    """Lines: a line without one carriage return at its end and one byte order mark at its front."""
+    line = line[:-1] if line.endswith(b"\r") else line
+    return line[len(MARK):] if line.startswith(MARK) else line
 
 
 def lines_of(data):
-    """Lines: the input cut at line feeds; the last line may have none and then keeps its carriage return."""
+    """Lines: the input cut at line feeds, each line bare; the last line may have no line feed."""
     parts = data.split(b"\n")
-    last = parts.pop()
-    lines = [part[:-1] if part.endswith(b"\r") else part for part in parts]
-    if last:
-        lines.append(last)
-    return lines
+    if parts[-1] == b"":
+        parts.pop()
+    return [bare(part) for part in parts]
+
+
+def steps_of(data):
+    """All answers to an input with their exit statuses, from the chart of zeros on, one pair for each line."""
+    chart = model.ZEROS
+    steps = []
+    for line in lines_of(data):
+        chart, answer, ended = step(chart, line)
+        steps.append((answer, ended))
+    return steps
 
 
 def answers_of(data):
-    """All answers to an input, from the chart of zeros on, one for each line (None where nothing is written)."""
-    chart = model.ZEROS
-    answers = []
-    for line in lines_of(data):
-        chart, answer = step(chart, line)
-        answers.append(answer)
-    return answers
+    """All answers to an input, one for each line (None where nothing is written)."""
+    return [answer for answer, _ in steps_of(data)]
+
+
+def status_of(data):
+    """Exit status: the highest of all answers to an input, 0 where there is none."""
+    return max((ended for _, ended in steps_of(data)), default=GO_ON)
 
 
 def main():
-    data = sys.stdin.buffer.read()
-    sys.stdout.buffer.write(b"".join(answer + b"\n" for answer in answers_of(data) if answer is not None))
+    steps = steps_of(sys.stdin.buffer.read())
+    sys.stdout.buffer.write(b"".join(answer + b"\n" for answer, _ in steps if answer is not None))
+    return max((ended for _, ended in steps), default=GO_ON)
 
 
 if __name__ == "__main__":
-    main()
+    sys.exit(main())

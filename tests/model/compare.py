@@ -1,4 +1,4 @@
-"""Runs a program with random commands and compares every answer with the model's.
+"""Runs a program with random commands and compares every answer, and its exit status, with the model's.
 
 python3 compare.py PROGRAM COUNT [SEED]
 """
@@ -10,6 +10,7 @@ import sys
 import commands
 import model
 import choices
+from commands import MARK
 from model import Chart
 from choices import Record
 
@@ -18,11 +19,12 @@ SHOWN = 5
 BIG = 9223372036854775807
 SETTERS = (b"built", b"read")
 LAST = (b"show", b"show\r", b"", b" ", b"#", b"\r", b"show" + b" " * 8187, b"show" + b" " * 8186 + b"\r",
-        b" " * 8191 + b"\r", b"#" * 8192, b"post 2 1", b"x", b"show" + b" " * 8188, b"read 00")
+        b" " * 8191 + b"\r", b"#" * 8192, b"post 2 1", b"x", b"show" + b" " * 8188, b"read 00", MARK, MARK + b"show",
+        MARK + MARK, MARK[:2], b" " + MARK, MARK + b"#" * 8191, MARK + b"#" * 8192)
 
 
 class Run:
-    """Long random runs, chosen by the model's chart."""
+    """Random runs, chosen by the model's chart."""
 
     def __init__(self, rng):
         self.rng = rng
@@ -32,7 +34,8 @@ class Run:
         self.trouble = 0.08
 
     def fill(self, count):
-        """Adds commands until there are at least so many."""
+        """Adds commands until there are at least so many. The first line may have a mark in front."""
+        self.rec.raw(self.rng.choice((b"", MARK)) + b"show")
         for _ in range(20):
             self.on_zeros()
         while len(self.rec.lines) < count:
@@ -40,6 +43,18 @@ class Run:
                 self.start()
             self.left -= 1
             self.move()
+
+    def few(self):
+        """A few commands, so that each exit status is met: the highest of thousands is nearly always the same."""
+        rng, rec = self.rng, self.rec
+        kind = rng.choice(choices.KINDS)
+        rec.build(kind, choices.random_base(rng, kind))
+        for word in choices.plan(rng, rec.chart, rng.choice((0, 0, 1, 2, 3, 4))) or []:
+            rec.post(word, rng)
+        if rec.chart.status == 1:
+            rec.reanalyse(self.word(), rng)
+        if self.chance(0.3):
+            rec.do(rng.choice(("correct", "renew")))
 
     def chance(self, share):
         return self.rng.random() < share
@@ -314,6 +329,8 @@ class Run:
         if self.chance(0.1):
             line = rng.choice((b" ", b"\t", b"\r", b"  ")) + line
         if self.chance(0.1):
+            line = rng.choice((MARK, MARK, MARK, MARK + MARK, MARK[:2], b" " + MARK)) + line
+        if self.chance(0.1):
             place = rng.randint(0, len(line))
             line = line[:place] + rng.choice((b"\r", b"\x00", b"\xff", b"\x80", b"#", b" ", b"-", b"0")) + line[place:]
         if self.chance(0.03):
@@ -363,12 +380,12 @@ def compare(program, rec, place, differences):
         found.pop()
     else:
         print("%s: the last answer has no line feed" % place)
-    if done.returncode != 0:
-        print("%s: the program ended with %d" % (place, done.returncode))
+    if done.returncode != rec.status:
+        print("%s: the program ended with %d where the model gives %d" % (place, done.returncode, rec.status))
     wanted = [at for at, answer in enumerate(rec.answers) if answer is not None]
     if len(found) != len(wanted):
         print("%s: %d answers where the model gives %d" % (place, len(found), len(wanted)))
-    wrong = abs(len(found) - len(wanted)) + (done.returncode != 0)
+    wrong = abs(len(found) - len(wanted)) + (done.returncode != rec.status)
     for at, answer in zip(wanted, found + [None] * (len(wanted) - len(found))):
         if answer != rec.answers[at]:
             wrong += answer is not None
@@ -389,10 +406,14 @@ def main():
     asked = compared = wrong = portion = 0
     while asked < count:
         run = Run(random.Random("%d %d" % (seed, portion)))
-        run.fill(min(PORTION, count - asked))
+        # Nine short portions, then a long one.
+        if portion % 10 < 9:
+            run.few()
+        else:
+            run.fill(min(PORTION, count - asked))
         rec = run.rec
-        # The last line has no line feed, and a carriage return at its end stays.
-        rec.raw(LAST[portion % len(LAST)], b"")
+        # The last line has no line feed; a carriage return at its end is passed over all the same.
+        rec.raw(LAST[portion % len(LAST)], run.rng.choice((b"", b"\r")))
         place = "seed %d portion %d" % (seed, portion)
         good, bad = compare(program, rec, place, differences)
         compared += good

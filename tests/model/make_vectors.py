@@ -7,6 +7,7 @@ import random
 
 import model
 import choices
+from commands import MARK
 from model import Chart
 from choices import Record, exact
 from figures import figures
@@ -36,8 +37,8 @@ def restore(rec, stored):
 
 
 def on_zeros(rec):
-    """The chart of zeros, and the order 14 before all others."""
-    comment(rec, "the chart of zeros is not sound")
+    """The chart of zeros, and the order 14 before all others. The first line of all has a mark in front."""
+    rec.raw(MARK + b"# the chart of zeros is not sound")
     rec.do("show")
     for command in ("correct", "renew", "lines", "write"):
         rec.do(command)
@@ -876,14 +877,39 @@ def language(rec):
         rec.raw(line, end)
 
 
+def fill(front, back, size, byte=b" "):
+    """A line of so many bytes."""
+    return front + byte * (size - len(front) - len(back)) + back
+
+
+def marks(rec):
+    """Byte order marks: one at the front of a line is passed over, any other belongs to the line."""
+    comment(rec, "byte order marks")
+    rec.build(2, A)
+    for line, end in (
+            (MARK + b"show", b"\n"), (MARK + b"post 2 10250 10000 0", b"\r\n"), (MARK + b" \tshow", b"\n"),
+            (MARK + b"# show", b"\n"), (MARK + b" #", b"\r\n"), (MARK, b"\n"), (MARK, b"\r\n"), (MARK + b" ", b"\n"),
+            (MARK + MARK + b"show", b"\n"), (MARK + MARK + b"# show", b"\n"), (MARK + MARK, b"\r\n"),
+            (MARK + b" " + MARK + b"show", b"\n"), (b" " + MARK + b"show", b"\n"), (b" " + MARK, b"\n"),
+            (b"\r" + MARK + b"show", b"\n"), (MARK + b"\r", b"\r\n"), (MARK + b"\r" + MARK, b"\r\n"),
+            (MARK + b"show" + MARK, b"\n"), (MARK[:2] + b"show", b"\n"), (MARK[:2], b"\r\n"), (MARK[:1], b"\n"),
+            (MARK[1:] + b"show", b"\n"), (MARK[:2] + MARK + b"show", b"\n"), (MARK + MARK[:2] + b"show", b"\n")):
+        rec.raw(line, end)
+    # The mark does not count for the length; a second mark does, and so does a part of one.
+    for size in (8191, 8192):
+        for end in (b"\n", b"\r\n"):
+            rec.raw(MARK + fill(b"word 1", b" 1 2 0", size), end)
+            rec.raw(MARK + fill(b"#", b"", size), end)
+            rec.raw(MARK + fill(MARK, b"", size), end)
+            rec.raw(fill(b" " + MARK, b"", size), end)
+            rec.raw(fill(MARK[:2], b"", size), end)
+    rec.raw(MARK + b"show")
+
+
 def long_lines(rec):
     """Lines at the greatest length, and longer ones."""
     comment(rec, "long lines")
     rec.build(2, A)
-
-    def fill(front, back, size, byte=b" "):
-        return front + byte * (size - len(front) - len(back)) + back
-
     for size in (8190, 8191, 8192, 8193):
         for end in (b"\n", b"\r\n"):
             rec.raw(fill(b"word 1", b" 1 2 0", size), end)
@@ -919,9 +945,9 @@ def long_lines(rec):
 
 
 def last_line(rec):
-    """The last line has no line feed."""
+    """The last line has a carriage return and no line feed."""
     rec.do("show")
-    rec.raw(b"word 1 1 2 0", b"")
+    rec.raw(b"word 1 1 2 0", b"\r")
 
 
 def make():
@@ -941,6 +967,7 @@ def make():
     random_runs(rec, rng, 14)
     full_series(rec, rng)
     language(rec)
+    marks(rec)
     long_lines(rec)
     last_line(rec)
     return rec

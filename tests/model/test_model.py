@@ -2,7 +2,8 @@
 
 python3 test_model.py
 
-The numbers here are written by hand from document 01 and its readings, so that a wrong model is told.
+The numbers here are written by hand from document 01, its readings and the descriptions of the commands and of charts
+in files, so that a wrong model is told.
 """
 
 import io
@@ -15,7 +16,8 @@ from functools import lru_cache
 import expected
 import make_vectors
 import model
-from commands import answers_of, lines_of
+from commands import answers_of, command_of, lines_of, status, status_of, step, steps_of
+from files import cases as file_cases, may_change, on_file
 from model import Chart
 
 A = (9900,) * 7 + (10100,) * 7 + (10000,)
@@ -106,6 +108,47 @@ write = bytes 48 080001000200000000002000020027102710271027102710271027101027102
 UP = ("08000100020001000300"
       "20000200" + "ac26" * 7 + "7427" * 7 + "1027"
       "10000300" + "de26" "e826" "f226" "fc26" "0627" "1027" "1a27")
+
+# The stored form of a fresh A, and what follows its base when 10301 was posted: 3d 28.
+A_FORM = bytes.fromhex("08000100020000000000" "20000200" + "ac26" * 7 + "7427" * 7 + "1027" "02000300")
+A_OUT = bytes.fromhex("08000100020001000100" "20000200" + "ac26" * 7 + "7427" * 7 + "1027" "04000300" "3d28")
+
+# The command language: each kind of answer with its exit status.
+STATUSES = {
+    0: ("word 6667", "word -313", "built rounds 1 removed 0", "word 10250 verdict 0", "word -1 verdict 0",
+        "word 9800 passed", "word -9800 passed", "corrected", "renewed rounds 2 removed 1", "read", "bytes 48 0800",
+        "lines 1000.00000000 1000.00000000 1000.00000000",
+        "chart kind 0 status 0 verdict 0 base 0 series 0", "chart kind 2 status 1 verdict 4 base 0 series 0"),
+    1: ("word 10301 verdict 1", "word -5 verdict 1", "word 10210 verdict 2", "word 0 verdict 3", "word 10150 verdict 4",
+        "word 9790 failed", "word -9790 failed"),
+    2: ("refused 1", "refused 8", "refused 14"),
+    3: ("error: unknown command; control_chart help lists the commands",
+        "error: line too long; a line has at most 8191 bytes"),
+}
+
+# A chart in a file: what is wrong with the file.
+NO_COMMAND = b"missing command; control_chart help lists the commands"
+NO_FILE = b"there is no such file; build makes it"
+REFUSED_13 = (b"it holds no stored chart (refused 13); check the name, or take the last good copy; to build anew, "
+              b"move it away first")
+REFUSED_14 = (b"the chart in it is not sound (refused 14); take the last good copy; to build anew, move it away "
+              b"first")
+
+# The cases of files: the answers that must be met, by command. Numbers are those of refusals.
+MET_IN_FILES = {
+    b"word": (b"word", 1, 5, 6, 7, b"missing", b"number", b"extra"),
+    b"build": (b"built", 1, 2, 3, b"missing", b"not"),
+    b"post": (b"verdict 0", b"verdict 1", b"verdict 2", b"verdict 3", b"verdict 4", 4, 5, 6, 7, 8, 9, b"missing",
+              b"not", b"number"),
+    b"reanalyse": (b"passed", b"failed", 4, 5, 6, 7, 10, b"missing", b"not"),
+    b"correct": (b"corrected", 11, b"extra"),
+    b"renew": (b"renewed", 8, 12, b"extra"),
+    b"lines": (b"lines", b"extra"),
+    b"write": (b"bytes", b"extra"),
+    b"read": (b"read", 13, 14, b"not", b"odd", b"extra"),
+    b"show": (b"chart", b"extra"),
+    b"help": (b"unknown",),
+}
 
 # Document 01, numbers for what is declined: the example of each number that a command can meet.
 EXAMPLES = {
@@ -411,7 +454,7 @@ def within(n, total, v, times, k, step):
 
 def test_commands():
     """The command language."""
-    same(lines_of(b"a\r\nb\rc\n\r\r\n\nd\r"), [b"a", b"b\rc", b"\r", b"", b"d\r"])
+    same(lines_of(b"a\r\nb\rc\n\r\r\n\nd\r"), [b"a", b"b\rc", b"\r", b"", b"d"])
     same(lines_of(b"a\n"), [b"a"])
     same(lines_of(b""), [])
     errors = {
@@ -440,6 +483,146 @@ def test_commands():
     same(answers_of(b"build 3" + b" -1" * 7 + b" 0" * 8 + b"\nlines")[1].split()[1], b"-0.46875000")
 
 
+def test_ends_and_fronts():
+    """The command language: a carriage return at the end of a line, a mark at its front."""
+    # At the end of input too, and only one.
+    for data, wanted in ((b"a\r", [b"a"]), (b"a\r\r", [b"a\r"]), (b"\r", [b""]), (b"a\n\r", [b"a", b""]),
+                         (b"a\r\n", [b"a"]), (b"a\r ", [b"a\r "]), (b"\ra", [b"\ra"])):
+        same(lines_of(data), wanted)
+    # A mark at the front of any line, and only one.
+    mark = bytes((0xef, 0xbb, 0xbf))
+    for data, wanted in ((mark + b"a", [b"a"]), (mark + b"a\n" + mark + b"b\r\n" + mark, [b"a", b"b", b""]),
+                         (mark + mark + b"a", [mark + b"a"]), (mark + b"\n", [b""]), (mark + b"\r\n", [b""]),
+                         (mark + b"\r", [b""]), (b"a" + mark, [b"a" + mark]), (b" " + mark, [b" " + mark]),
+                         (b"\r" + mark + b"\n", [b"\r" + mark]), (mark[:2] + b"\n", [mark[:2]]),
+                         (mark[:2], [mark[:2]]), (mark + b"\r\r\n", [b"\r"]), (mark[:2] + b"\r", [mark[:2]])):
+        same(lines_of(data), wanted)
+    unknown = b"error: unknown command; control_chart help lists the commands"
+    for data, wanted in ((b"show\r", b"chart kind 0 status 0 verdict 0 base 0 series 0"), (b"show\r\r", unknown),
+                         (mark + b"show", b"chart kind 0 status 0 verdict 0 base 0 series 0"),
+                         (mark + mark + b"show", unknown), (mark + mark, unknown), (b" " + mark + b"show", unknown),
+                         (mark[:2], unknown), (mark, None), (mark + b"# x", None), (mark + b" \r", None),
+                         (mark + mark + b"# x", unknown)):
+        same(answers_of(data), [wanted])
+    # Neither counts for the 8191 bytes.
+    for front in (b"", mark):
+        for end in (b"", b"\r", b"\n", b"\r\n"):
+            same(answers_of(front + b"#" * 8191 + end), [None])
+            same(answers_of(front + b"#" * 8192 + end), [b"error: line too long; a line has at most 8191 bytes"])
+    same(answers_of(mark + mark + b"x" * 8188), [unknown])
+    same(answers_of(mark + mark + b"x" * 8189), [b"error: line too long; a line has at most 8191 bytes"])
+
+
+def test_statuses():
+    """The command language: the exit status of each answer, and of an input."""
+    for number, answers in STATUSES.items():
+        for answer in answers:
+            same((answer, status(answer.encode())), (answer, number))
+    build = b"build 2 " + " ".join(map(str, A)).encode() + b"\n"
+    out, passing, failing = (b"post 2 10301 10000 0\n", b"reanalyse 2 1 1 0\n", b"reanalyse 2 10301 10000 0\n")
+    for data, wanted in ((b"", 0), (b"# x\n\n", 0), (build, 0), (build + b"post 2 1 1 0", 0), (build + out, 1),
+                         (build + out + passing, 1), (build + out + failing, 1), (build + out + b"show\nwrite", 1),
+                         (b"correct", 2), (build + out + b"renew\nshow", 2), (b"x", 3), (b"x\ncorrect\n" + build, 3),
+                         (b"#" * 8192, 3), (b"show\r", 0)):
+        same(status_of(data), wanted)
+    # An open chart by itself holds nothing: only a post and a reanalysis do.
+    chart = posted(2, A, [10301])[0]
+    for line, wanted in ((b"show", 0), (b"lines", 0), (b"word 2 1 1 0", 0), (b"reanalyse 2 1 1 0", 0),
+                         (b"reanalyse 2 3 1 0", 2), (b"reanalyse 2 10301 10000 0", 1), (b"", 0)):
+        same(step(chart, line)[2], wanted)
+    # What happened and what is told agree, on every line of the made files.
+    steps = steps_of(made_files()["crates/control_chart/stdin"])
+    same([pair for pair in steps if pair[1] != (status(pair[0]) if pair[0] is not None else 0)], [])
+    same({ended for _, ended in steps}, {0, 1, 2, 3})
+
+
+def test_files():
+    """A chart in a file: the bytes kept, the text, the exit status, and where the text goes."""
+    build = b"build 2 " + " ".join(map(str, A)).encode()
+    built, posted_out = b"built rounds 1 removed 0", b"word 10301 verdict 1"
+    status_2 = A_OUT[:6] + b"\2" + A_OUT[7:]
+    unsound = A_FORM[:6] + b"\3" + A_FORM[7:]
+    for held in (None, b"", A_FORM, unsound):
+        for line in (b"", b" \t", b"#", b" # build"):
+            same(on_file(held, line), (None, NO_COMMAND, 3, True))
+    for line in (b"show", b"post 2 1 1 0", b"read " + A_FORM.hex().encode(), b"word 1 1 2 0", b"x", b"Build", b"post x",
+                 b"read"):
+        same(on_file(None, line), (None, NO_FILE, 3, True))
+    for line, wanted in ((build, (A_FORM, built, 0, False)), (b"\t" + build + b" ", (A_FORM, built, 0, False)),
+                         (b"build 4", (None, b"refused 1", 2, False)), (b"build 2 5", (None, b"refused 2", 2, False)),
+                         (b"build 1" + b" -1" * 15, (None, b"refused 3", 2, False))):
+        same(on_file(None, line), wanted)
+    same(on_file(None, b"build")[2:], (3, False))
+    same(on_file(None, b"build 2 x")[0], None)
+    same(on_file(None, b"build 2 x")[1].split(b";")[0], b"error: not a number")
+    for line in (b"show", build, b"read " + A_FORM.hex().encode(), b"x", b"word 1 1 2 0", b"post 2 x"):
+        for held in (b"", A_FORM[:47], A_FORM + b"\0", A_FORM.hex().encode(), unsound + b"\0"):
+            same(on_file(held, line), (None, REFUSED_13, 3, True))
+        same(on_file(unsound, line), (None, REFUSED_14, 3, True))
+    for held, line, wanted in (
+            (A_FORM, b"post 2 10301 10000 0", (A_OUT, posted_out, 1, False)),
+            (A_OUT, b"post 2 10301 10000 0", (None, b"refused 8", 2, False)),
+            (A_OUT, b"reanalyse 2 10301 10000 0", (status_2, b"word 10301 failed", 1, False)),
+            (status_2, b"correct", (A_OUT, b"corrected", 0, False)),
+            (status_2, b"reanalyse 2 1 1 0", (None, b"refused 10", 2, False)),
+            (A_FORM, b"word 1 1 2 0", (None, b"word 6667", 0, False)),
+            (A_FORM, b"write", (None, b"bytes 48 " + A_FORM.hex().encode(), 0, False)),
+            (A_FORM, b"read " + A_OUT.hex().encode(), (A_OUT, b"read", 0, False)),
+            (A_OUT, b"read " + A_OUT.hex().encode(), (None, b"read", 0, False)),
+            (A_OUT, b"read", (None, b"refused 13", 2, False)),
+            (A_OUT, b"read " + unsound.hex().encode(), (None, b"refused 14", 2, False)),
+            (A_OUT, build, (A_FORM, built, 0, False)), (A_FORM, build, (None, built, 0, False)),
+            # The last fifteen words are those of the base.
+            (A_FORM, b"renew", (None, b"renewed rounds 1 removed 0", 0, False)),
+            (A_FORM, b"correct", (None, b"refused 11", 2, False)),
+            (A_FORM, b"x", (None, b"error: unknown command; control_chart help lists the commands", 3, False))):
+        same(on_file(held, line), wanted)
+    passed = on_file(A_OUT, b"reanalyse 2 10300 10000 0")
+    same((passed[0].hex(), passed[1:]), (A_FORM[:44].hex() + "040003003c28", (b"word 10300 passed", 0, False)))
+    for line, wanted in ((build, True), (b" post", True), (b"reanalyse x", True), (b"correct", True), (b"renew", True),
+                         (b"read", True), (b"word 1 1 2 0", False), (b"lines", False), (b"write", False),
+                         (b"show", False), (b"x", False), (b"", False), (b"# post", False), (b"posts", False)):
+        same((line, may_change(line)), (line, wanted))
+
+
+def told_in_file(command, answer):
+    """An answer as MET_IN_FILES has it."""
+    fields = answer.split()
+    if fields[0] == b"refused":
+        return int(fields[1])
+    if fields[0] == b"error:":
+        return fields[1]
+    return b" ".join(fields[2:]) if command in (b"post", b"reanalyse") else fields[0]
+
+
+def test_file_cases():
+    """The cases of files: their number, what they meet, and what holds for each."""
+    pairs = file_cases()
+    same(pairs == file_cases(), True)
+    same((400 <= len(pairs) <= 600, len(set(pairs))), (True, len(pairs)))
+    same([line for _, line in pairs if b"\0" in line or b"\n" in line or len(line) > 8191], [])
+    met, errors = set(), set()
+    for held, line in pairs:
+        kept, answer, ended, is_error = on_file(held, line)
+        command = command_of(line)
+        if is_error:
+            errors.add((held is None, answer))
+            assert (kept, ended) == (None, 3), (held, line)
+        else:
+            met.add((command, told_in_file(command, answer)))
+            assert ended == status(answer), (held, line)
+        if kept is not None:
+            assert may_change(line) and kept != held and refusal(model.read, kept) == 0, (held, line)
+    same(errors, {(True, NO_COMMAND), (False, NO_COMMAND), (True, NO_FILE), (False, REFUSED_13), (False, REFUSED_14)})
+    for command, answers in MET_IN_FILES.items():
+        same((command, {told for name, told in met if name == command}), (command, set(answers)))
+    # The cuts of one form: every one of its front parts, and every one with a byte left out.
+    held_all = {held for held, _ in pairs}
+    same([size for size in range(50) if A_OUT[:size] not in held_all], [])
+    same([place for place in range(50) if A_OUT[:place] + A_OUT[place + 1:] not in held_all], [])
+    same([form in held_all for form in (b"", A_OUT + b"\0", A_OUT.hex().encode())], [True] * 3)
+
+
 @lru_cache(maxsize=None)
 def made_files():
     """The made files."""
@@ -448,7 +631,7 @@ def made_files():
 
 def block_of(files):
     """The block of figures in the made files: each line of text, with its commands and their answers."""
-    asked = files["crates/control_chart/stdin"].decode("latin-1").split("\n")
+    asked = [line.decode("latin-1") for line in lines_of(files["crates/control_chart/stdin"])]
     answers = iter(files["crates/control_chart/stdout"].decode("ascii").split("\n"))
     texts = []
     for line in asked[:asked.index("# words formed alone")]:
@@ -480,7 +663,11 @@ def test_made():
     """The made files: their paths, and the answers to the commands, read from their bytes."""
     files = made_files()
     same(sorted(files), ["crates/control_chart/stdin", "crates/control_chart/stdout"])
-    answers = answers_of(files["crates/control_chart/stdin"])
+    asked = files["crates/control_chart/stdin"]
+    same(asked.startswith(b"\xef\xbb\xbf# the chart of zeros"), True)
+    same(asked.split(b"\n")[-1], b"word 1 1 2 0\r")
+    same(files["crates/control_chart/stdout"].endswith(b"\nword 6667\n"), True)
+    answers = answers_of(asked)
     same(b"".join(answer + b"\n" for answer in answers if answer is not None) == files["crates/control_chart/stdout"],
          True)
 
@@ -563,8 +750,8 @@ def test_expected():
 
 def main():
     for test in (test_words, test_building, test_verdicts, test_reanalysis, test_order,
-                 test_stored_form, test_lines, test_commands, test_made, test_block, test_figures,
-                 test_examples, test_expected):
+                 test_stored_form, test_lines, test_commands, test_ends_and_fronts, test_statuses, test_files,
+                 test_file_cases, test_made, test_block, test_figures, test_examples, test_expected):
         test()
     print("%d passed, 0 failed" % PASSED)
 

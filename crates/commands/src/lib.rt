@@ -3,7 +3,7 @@
 // A line is passed over if it has no field or its first field begins with '#'. What is wrong with a line is told in words, and then no call
 // is made. A call that document 01 declines answers `refused` and its number. A refused build or read leaves the chart that was there.
 mod faults;
-mod names;
+pub mod names;
 mod numbers;
 
 use chart::BuildAnswer;

@@ -2,4 +2,3 @@
 mod Places
 mod Cutting
 mod Taking
-mod Keeping

@@ -1,18 +1,26 @@
-// One command on the chart that a file holds.
+// One command on the chart that a file holds. What it comes to is `outcomes::on_file`'s; here bytes are moved, in this order where the command
+// may change the chart: the lock is made, the file is read, the command is done, the lock is filled and renamed over the file, and then the
+// answer is said.
 use crate::input::LINE_ROOM;
-use crate::input::answer;
+use crate::lock::put_lock_name;
+use crate::lock::release;
+use crate::lock::take_lock;
 use crate::replace::replace_file;
+use crate::replace::sync_folder;
+use crate::say::ERROR;
+use crate::say::error;
+use crate::say::failure;
+use crate::say::file_first;
 use crate::say::say;
-use crate::say::say_failure;
-use chart::Chart;
-use chart::zero_chart;
 use commands::ANSWER_MOST;
-use commands::is_build;
-use parsing::fields::same_bytes;
+use outcomes::Outcome;
+use outcomes::names::is_name;
+use outcomes::names::may_change;
+use outcomes::on_file;
+use outcomes::status::exit_status;
 use printing::put_byte;
 use printing::put_text;
-use store::ReadAnswer;
-use store::WriteAnswer;
+use system::Permissions;
 ghost use mathlib.Core.List.{[], _∷_};
 ghost use Prim.Native.Nat.{_≤_};
 ghost use lib.ListN.{length};
@@ -21,53 +29,261 @@ ghost use Rattle.io.specs.Counts.{Counts};
 ghost use Rattle.guide.specs.Choice.{choose};
 ghost use Rattle.printing.specs.Output.{Puts};
 ghost use Rattle.printing.specs.Decimal.{spaceCode};
-ghost use Rattle.control_chart.specs.Kept.{formMost, IsKept};
 
 // More than the longest stored form, which has 814 bytes.
 const FILE_ROOM: usize = 1024;
 
-// What reading a file gave: whether it could be read, and how many bytes came. A file that is longer than any stored form is read as far as
-// the buffer goes, which is no stored form either.
+// What reading a file gave: whether all went well, whether there is a file, how many bytes came, and its permissions. A file that is longer
+// than any stored form is read as far as the buffer goes, which is no stored form either.
 struct FileRead {
+    done: bool,
+    there: bool,
+    len: usize,
+    permissions: Permissions,
+}
+
+// What reading an open file gave.
+struct BytesRead {
     done: bool,
     len: usize,
 }
 
-pub fn command_on_file(path: &[u8], count: usize) {
+// The command of the arguments from the first one on. Answers the exit status.
+pub fn command_on_file(path: &[u8], first: usize, count: usize) -> u8 {
     let mut line = [0u8; LINE_ROOM];
-    let len = join_arguments(count, &mut line);
+    let len = join_arguments(first, count, &mut line);
+    if is_command_alone(path) {
+        return file_first(path);
+    }
+    if may_change(&line[..len]) {
+        return change_file(path, &line[..len]);
+    }
+    look_at_file(path, &line[..len])
+}
+
+// A command's name, where a file's is wanted and none is there.
+fn is_command_alone(path: &[u8]) -> bool {
+    if is_name(path) {
+        return system::access(path, libc::F_OK) != 0;
+    }
+    false
+}
+
+// ---- a command that only reads
+
+fn look_at_file(path: &[u8], line: &[u8]) -> u8 {
+    let mut held = [0u8; FILE_ROOM];
+    let read = read_file(path, &mut held);
+    let n = read.len;
+    if !read.done {
+        return failure(path, b"it cannot be read");
+    }
+    say_look(path, read.there, &held[..n], line)
+}
+
+fn say_look(path: &[u8], there: bool, held: &[u8], line: &[u8]) -> u8 {
+    let mut form = [0u8; FILE_ROOM];
+    let mut out = [0u8; ANSWER_MOST];
+    let r = on_file(there, held, line, &mut form, &mut out);
+    let size = r.size;
+    let outcome = r.outcome;
+    match outcome {
+        Outcome::Answered => answer(path, &out[..size]),
+        Outcome::Fault => error(path, &out[..size]),
+        _ => error(
+            path,
+            b"it would be changed without a lock; nothing was done",
+        ),
+    }
+}
+
+fn answer(path: &[u8], text: &[u8]) -> u8 {
+    if say(text) {
+        return exit_status(text);
+    }
+    failure(path, b"it is as it was, and the answer cannot be written")
+}
+
+// ---- a command that may change the chart
+
+fn change_file(path: &[u8], line: &[u8]) -> u8 {
+    if system::is_link(path) {
+        return error(
+            path,
+            b"it is a link, which is not replaced; give the name of the file that it leads to",
+        );
+    }
+    if !may_be_written(path) {
+        return failure(path, b"it may not be written, and is as it was");
+    }
+    let mut name = io::buffer();
+    let n = put_lock_name(path, &mut name);
+    let fd = take_lock(path, &name[..n]);
+    if fd < 0 {
+        return ERROR;
+    }
+    change_locked(path, &name[..n], fd, line)
+}
+
+// Whether this user may write the file, or there is none.
+fn may_be_written(path: &[u8]) -> bool {
+    if system::access(path, libc::W_OK) == 0 {
+        return true;
+    }
+    os::errno() == libc::ENOENT
+}
+
+// The lock is this process's.
+fn change_locked(path: &[u8], lock: &[u8], fd: i32, line: &[u8]) -> u8 {
+    let mut held = [0u8; FILE_ROOM];
+    let read = read_file(path, &mut held);
+    let n = read.len;
+    if !read.done {
+        failure(path, b"it cannot be read, and the command was not done");
+        release(lock);
+        return ERROR;
+    }
+    let permissions = read.permissions;
+    change_held(path, lock, fd, permissions, read.there, &held[..n], line)
+}
+
+fn change_held(
+    path: &[u8],
+    lock: &[u8],
+    fd: i32,
+    permissions: Permissions,
+    there: bool,
+    held: &[u8],
+    line: &[u8],
+) -> u8 {
+    let mut form = [0u8; FILE_ROOM];
+    let mut out = [0u8; ANSWER_MOST];
+    let r = on_file(there, held, line, &mut form, &mut out);
+    let n = r.form;
+    let size = r.size;
+    let outcome = r.outcome;
+    match outcome {
+        Outcome::Changed => keep(path, lock, fd, permissions, &form[..n], &out[..size]),
+        Outcome::Answered => {
+            release(lock);
+            answer(path, &out[..size])
+        }
+        Outcome::Fault => {
+            release(lock);
+            error(path, &out[..size])
+        }
+        Outcome::NoRoom => {
+            release(lock);
+            error(
+                path,
+                b"the chart is too long for a stored form; nothing was done",
+            )
+        }
+    }
+}
+
+// The new form into the file, then the answer.
+fn keep(
+    path: &[u8],
+    lock: &[u8],
+    fd: i32,
+    permissions: Permissions,
+    form: &[u8],
+    text: &[u8],
+) -> u8 {
+    if !replace_file(path, lock, fd, permissions, form) {
+        return ERROR;
+    }
+    let synced = sync_folder(path);
+    if !synced {
+        failure(
+            path,
+            b"it is replaced, but its folder cannot be synced: after a loss of power it may be the old one",
+        );
+    }
+    if !say(text) {
+        return failure(
+            path,
+            b"the command was done, but its answer cannot be written",
+        );
+    }
+    if synced { exit_status(text) } else { ERROR }
+}
+
+// ---- reading
+
+// A file that is not there is read too: as no file. Where a call fails, the file stays open, so that the reason is still the system's last.
+fn read_file(path: &[u8], held: &mut [u8]) -> FileRead
+    ensures { λ r. ⌜ Counts (r .len) (now (held .exit)) ⌝ }
+{
     let fd = os::open_read(path);
-    if 0 <= fd {
-        command_on_open(fd, path, &line[..len]);
-        return;
+    if fd < 0 {
+        return no_file(os::errno() == libc::ENOENT);
     }
-    let error = os::errno();
-    if error == libc::ENOENT {
-        command_on_none(path, &line[..len]);
-        return;
+    let permissions = system::permissions_of(fd);
+    if !permissions.known {
+        return no_file(false);
     }
-    say_failure(b"the file cannot be read", error, b"");
+    let read = read_all(fd, held);
+    let len = read.len;
+    if !read.done {
+        return no_file(false);
+    }
+    libc::close(fd);
+    FileRead {
+        done: true,
+        there: true,
+        len,
+        permissions,
+    }
 }
 
-// There is no file. `build` makes it.
-fn command_on_none(path: &[u8], line: &[u8]) {
-    if is_build(line) {
-        command_on(zero_chart(), &[], path, line);
-        return;
+fn no_file(done: bool) -> FileRead
+    ensures { λ r. ⌜ r .len ≡ 0 ⌝ }
+{
+    FileRead {
+        done,
+        there: false,
+        len: 0,
+        permissions: Permissions {
+            known: false,
+            mode: 0,
+            owner: 0,
+            group: 0,
+        },
     }
-    say_failure(
-        b"the file cannot be read",
-        libc::ENOENT,
-        b"; build makes a file",
-    );
 }
 
-// The arguments from the third on, with a blank between two, as a line. Answers its length.
-fn join_arguments(count: usize, line: &mut [u8]) -> usize
+// Reads to the end, or until the buffer is full. A read may bring less than there is.
+fn read_all(fd: i32, bytes: &mut [u8]) -> BytesRead
+    ensures { λ r. ⌜ Counts (r .len) (now (bytes .exit)) ⌝ }
+{
+    let mut len: usize = 0;
+    while len < bytes.len() {
+        let got = libc::read(fd, &mut bytes[len..]);
+        if got < 0 {
+            return BytesRead {
+                done: false,
+                len: 0,
+            };
+        }
+        let n = io::count(got, &bytes[len..]);
+        if n == 0 {
+            return BytesRead { done: true, len };
+        }
+        len += n;
+    }
+    BytesRead { done: true, len }
+}
+
+// ---- the line
+
+// The arguments from the first one on, with a blank between two, as a line. Answers its length.
+fn join_arguments(first: usize, count: usize, line: &mut [u8]) -> usize
     ensures { λ r. ⌜ Counts r (now (line .exit)) ⌝ }
 {
     let mut at: usize = 0;
-    let mut i: usize = 2;
+    let mut i = first;
     while i < count {
         at = put_argument(i, line, at);
         i += 1;
@@ -97,99 +313,4 @@ fn put_blank(line: &mut [u8], at: usize) -> usize
         return 0;
     }
     put_byte(line, at, b' ')
-}
-
-// The file is open.
-fn command_on_open(fd: i32, path: &[u8], line: &[u8]) {
-    let mut bytes = [0u8; FILE_ROOM];
-    let r = read_all(fd, &mut bytes);
-    let n = r.len;
-    let error = os::errno();
-    libc::close(fd);
-    if !r.done {
-        say_failure(b"the file cannot be read", error, b"");
-        return;
-    }
-    let held = store::read(&bytes[..n]);
-    let chart = held.chart;
-    let answer = held.answer;
-    match answer {
-        ReadAnswer::Done => command_on(chart, &bytes[..n], path, line),
-        ReadAnswer::Refused(number) => say_refused(number),
-    }
-}
-
-// A read may bring less than there is, so the rest is read too.
-fn read_all(fd: i32, bytes: &mut [u8]) -> FileRead
-    ensures { λ r. ⌜ Counts (r .len) (now (bytes .exit)) ⌝ }
-{
-    let got = libc::read(fd, bytes);
-    if got < 0 {
-        return FileRead {
-            done: false,
-            len: 0,
-        };
-    }
-    let n = io::count(got, bytes);
-    let more = io::read_full(fd, &mut bytes[n..]);
-    FileRead {
-        done: true,
-        len: n + more,
-    }
-}
-
-// The bytes are no sound chart's.
-fn say_refused(number: u16) {
-    if number == 13 {
-        say(
-            b"error: the file is refused 13: it holds no stored chart; check the name, or take the last good copy\n",
-        );
-        return;
-    }
-    say(b"error: the file is refused 14: the chart in it is not sound; take the last good copy\n");
-}
-
-// The command on the chart that the file's bytes hold, or on the chart of zeros where there is no file. The answer is said when what it
-// changed is in the file.
-fn command_on(chart: Chart, bytes: &[u8], path: &[u8], line: &[u8]) {
-    let mut out = [0u8; ANSWER_MOST];
-    let r = answer(chart, line, &mut out);
-    let size = r.size;
-    if size == 0 {
-        say(b"error: missing command; control_chart help lists the commands\n");
-        return;
-    }
-    if keep(r.chart, bytes, path) {
-        say(&out[..size]);
-    }
-}
-
-// Puts the chart into the file if it is not there already. The chart of zeros, which a refused build leaves, is put nowhere.
-fn keep(chart: Chart, bytes: &[u8], path: &[u8]) -> bool {
-    let mut form = [0u8; FILE_ROOM];
-    let n = form_of(chart, &mut form);
-    if n == 0 {
-        return true;
-    }
-    keep_form(path, bytes, &form[..n])
-}
-
-// The stored form of a chart, at the front of the buffer, and its size; 0 of a chart that is not sound.
-fn form_of(chart: Chart, form: &mut [u8]) -> usize
-    requires { ⌜ formMost ≤ length (now form) ⌝ }
-    ensures { λ r. ⌜ IsKept chart (now (form .exit)) r ⌝ }
-    ensures { λ r. ⌜ Counts r (now (form .exit)) ⌝ }
-{
-    let written = store::write(chart, form);
-    match written {
-        WriteAnswer::Done(n) => n,
-        WriteAnswer::Refused(_) => 0,
-    }
-}
-
-fn keep_form(path: &[u8], bytes: &[u8], form: &[u8]) -> bool {
-    if same_bytes(bytes, form) {
-        return true;
-    }
-    replace_file(path, form)
 }

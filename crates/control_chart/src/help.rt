@@ -1,7 +1,21 @@
-// What the program takes and answers.
+// What the program takes and answers, and its version.
+use crate::say::failure;
 use crate::say::say;
 
-pub fn explain() {
+// The version stands here and, for C, in include/control_chart.h; `tests/files/run` compares them.
+pub fn say_version() -> u8 {
+    ended(say(b"control_chart 1.0.0\n"))
+}
+
+// The exit status after the last of a text.
+fn ended(written: bool) -> u8 {
+    if written {
+        return 0;
+    }
+    failure(b"standard output", b"it cannot be written")
+}
+
+pub fn explain() -> u8 {
     say(b"control_chart: a control chart for duplicate, check and spike results\n\n");
     say(
         b"control_chart                    commands on standard input, one to a line; no chart until build or read\n",
@@ -9,11 +23,14 @@ pub fn explain() {
     say(
         b"control_chart FILE COMMAND ..    one command on the chart that FILE holds; build makes FILE, or replaces its chart\n",
     );
-    say(b"control_chart help               this text\n\n");
+    say(b"control_chart help               this text, as -h and --help\n");
+    say(b"control_chart --version          the version\n\n");
     say(
         b"Blanks separate fields. Numbers are whole and in decimal. Words are in hundredths of a percent: 10000 is 100 %.\n",
     );
-    say(b"Go by the answer: the exit status is always 0.\n\n");
+    say(
+        b"Exit status: 0 go on, 1 hold the batch (verdict 1 to 4, failed), 2 refused, 3 error; of several answers the highest.\n\n",
+    );
     say_commands();
     say_numbers();
     say_refusals();
@@ -21,8 +38,9 @@ pub fn explain() {
         b"Empty lines and lines that begin with # are passed over. A line has at most 8191 bytes.\n",
     );
     say(
-        b"A command that changes the chart replaces FILE whole; where that fails, FILE is as it was. One command at a time.\n",
+        b"A command that changes the chart makes FILE.lock, so that one works at a time, and replaces FILE whole or not at all.\n",
     );
+    ended(say(b"Answers go to standard output, errors about FILE to standard error.\n"))
 }
 
 fn say_commands() {

@@ -1,35 +1,38 @@
 // Commands on standard input, one to a line.
+use crate::say::failure;
 use crate::say::say;
-use crate::say::say_failure;
 use bytes::scan::find;
 use chart::Chart;
 use chart::zero_chart;
 use commands::ANSWER_MOST;
-use commands::Answered;
 use commands::LINE_MOST;
 use commands::answer_line;
 use libc::STDIN_FILENO;
+use outcomes::status::exit_status;
 use parsing::fields::without_return;
+use parsing::text::mark_size;
 use printing::put_text;
 ghost use mathlib.Core.Path.{_≡_};
-ghost use Prim.Native.Nat.{_+_, _≤_};
+ghost use Prim.Native.Nat.{_+_, _≤_, max};
 ghost use lib.ListN.{length};
 ghost use lib.Dec.{ltb};
 ghost use Rattle.guide.specs.Choice.{choose};
 ghost use Rattle.io.specs.Counts.{Counts};
-ghost use Rattle.commands.specs.Command.{lineIn};
-ghost use Rattle.parsing.specs.Bytes.{PutInFront};
-ghost use Rattle.commands.specs.Reply.{chartAfterLine, answerToLine, answerMost};
-ghost use Rattle.control_chart.specs.Input.{chartAfterEnded, withPart, withBytes, Follows, HasRoom, GivesAtEnd};
-ghost use Rattle.control_chart.specs.Input.{Came, IsRead, IsAtEnd};
+ghost use Rattle.control_chart.specs.Input.{withPart, Follows, HasRoom, GivesAtEnd, EndsLine, Answers};
+ghost use Rattle.control_chart.specs.Input.{Came, Taken, IsRead, IsAtEnd};
 
 // `lineRoom` in `specs/Input`.
-pub const LINE_ROOM: usize = LINE_MOST + 2;
+pub const LINE_ROOM: usize = LINE_MOST + 5;
 
-// The chart, and how many bytes have come of a line that has not ended.
+// What stands after some of the input.
 pub struct Pending {
     pub chart: Chart,
+    // How many bytes have come of a line that has not ended.
     pub len: usize,
+    // The highest exit status of the answers; 3 where one was not written.
+    pub status: u8,
+    // Whether every answer was written. If not, no further command is done.
+    pub told: bool,
 }
 
 // What is pending after a read, and whether to go on.
@@ -38,14 +41,16 @@ struct AfterRead {
     pending: Pending,
 }
 
-// Does the commands of standard input, from the chart of zeros. Answers the chart at its end.
-pub fn commands_from_input() -> Chart
+// Does the commands of standard input, from the chart of zeros. Answers what stands at its end.
+pub fn commands_from_input() -> Pending
     ensures { λ r. ⌜ IsAtEnd r ⌝ }
 {
     let mut line = [0u8; LINE_ROOM];
     let pending = Pending {
         chart: zero_chart(),
         len: 0,
+        status: 0,
+        told: true,
     };
     let last = take_all(pending, &mut line);
     end_input(last, &line)
@@ -70,17 +75,16 @@ fn take_all(pending: Pending, line: &mut [u8]) -> Pending
     kept
 }
 
-// A last line that has no line feed. Answers the chart after it.
-fn end_input(pending: Pending, line: &[u8]) -> Chart
+// A last line that has no line feed.
+fn end_input(pending: Pending, line: &[u8]) -> Pending
     requires { ⌜ HasRoom pending (now line) ⌝ }
     ensures { λ r. ⌜ GivesAtEnd pending (now (line .entry)) r ⌝ }
 {
     let n = pending.len;
     if n == 0 {
-        return pending.chart;
+        return pending;
     }
-    let last = answered(pending.chart, &line[..n]);
-    last.chart
+    end_line(pending, &line[..n])
 }
 
 // One read. Where it fails, a line that had begun is left out: its end is not known.
@@ -93,29 +97,34 @@ fn read_some(pending: Pending, line: &mut [u8]) -> AfterRead
     let got = libc::read(STDIN_FILENO, &mut bytes);
     if got < 0 {
         let chart = pending.chart;
-        say_failure(
-            b"standard input cannot be read",
-            os::errno(),
-            b"; the rest was not done",
+        let status = failure(
+            b"standard input",
+            b"it cannot be read, and the rest was not done",
         );
         return AfterRead {
             more: false,
-            pending: Pending { chart, len: 0 },
+            pending: Pending {
+                chart,
+                len: 0,
+                status,
+                told: true,
+            },
         };
     }
     let n = io::count(got, &bytes);
     let after = take_bytes(pending, &bytes[..n], line);
+    let told = after.told;
     AfterRead {
-        more: 0 < n,
+        more: (0 < n) & told,
         pending: after,
     }
 }
 
-// Bytes that came: each line that ends among them is answered, and the rest is kept.
+// Bytes that came: each line that ends among them is answered, and the rest is kept. It stops behind an answer that was not written.
 fn take_bytes(pending: Pending, bytes: &[u8], line: &mut [u8]) -> Pending
     requires { ⌜ HasRoom pending (now line) ⌝ }
     ensures { λ r. ⌜ r .len ≤ length (now (line .exit)) ⌝ }
-    ensures { λ r. ⌜ Follows (λ s. withBytes s (now (bytes .entry))) pending (now (line .entry)) r (now (line .exit)) ⌝ }
+    ensures { λ r. ⌜ Taken (now (bytes .entry)) pending (now (line .entry)) r (now (line .exit)) ⌝ }
 {
     let mut kept = pending;
     let mut at: usize = 0;
@@ -123,6 +132,9 @@ fn take_bytes(pending: Pending, bytes: &[u8], line: &mut [u8]) -> Pending
         let end = find(bytes, at, bytes.len(), b'\n');
         kept = take_part(kept, &bytes[at..end], end < bytes.len(), line);
         at = after_line_feed(bytes, end);
+        if !kept.told {
+            return kept;
+        }
     }
     kept
 }
@@ -141,42 +153,60 @@ fn take_part(pending: Pending, part: &[u8], ends: bool, line: &mut [u8]) -> Pend
     ensures { λ r. ⌜ Follows (λ s. withPart s (now (part .entry)) ends) pending (now (line .entry)) r (now (line .exit)) ⌝ }
 {
     let chart = pending.chart;
+    let status = pending.status;
     let len = put_text(line, pending.len, part);
     if !ends {
-        return Pending { chart, len };
+        return Pending {
+            chart,
+            len,
+            status,
+            told: true,
+        };
     }
-    end_line(chart, &line[..len])
+    end_line(pending, &line[..len])
 }
 
-// A line that has ended. A carriage return before its line feed is passed over.
-fn end_line(chart: Chart, line: &[u8]) -> Pending
-    ensures { λ r. ⌜ (r .chart ≡ chartAfterEnded chart (now (line .entry))) × (r .len ≡ 0) ⌝ }
+// A line that has ended. A carriage return at its end and a byte order mark at its front are passed over.
+fn end_line(pending: Pending, line: &[u8]) -> Pending
+    ensures { λ r. ⌜ EndsLine pending (now (line .entry)) r ⌝ }
 {
     let n = without_return(line);
-    answered(chart, &line[..n])
+    let text = &line[..n];
+    let at = mark_size(text);
+    answered(pending, &text[at..])
 }
 
 // Answers a line, and begins the next.
-fn answered(chart: Chart, line: &[u8]) -> Pending
-    ensures { λ r. ⌜ (r .chart ≡ chartAfterLine chart (lineIn (now (line .entry)))) × (r .len ≡ 0) ⌝ }
+fn answered(pending: Pending, line: &[u8]) -> Pending
+    ensures { λ r. ⌜ Answers pending (now (line .entry)) r ⌝ }
 {
     let mut out = [0u8; ANSWER_MOST];
-    let r = answer(chart, line, &mut out);
-    let after = r.chart;
-    let size = r.size;
-    say(&out[..size]);
+    let answer = answer_line(pending.chart, line, &mut out);
+    let chart = answer.chart;
+    let size = answer.size;
+    if !say(&out[..size]) {
+        let status = failure(
+            b"standard output",
+            b"it cannot be written, and no further command was done",
+        );
+        return Pending {
+            chart,
+            len: 0,
+            status,
+            told: false,
+        };
+    }
+    let status = higher(pending.status, exit_status(&out[..size]));
     Pending {
-        chart: after,
+        chart,
         len: 0,
+        status,
+        told: true,
     }
 }
 
-// Answers a line. The buffer holds all of the answer.
-pub fn answer(chart: Chart, line: &[u8], out: &mut [u8]) -> Answered
-    requires { ⌜ answerMost ≤ length (now out) ⌝ }
-    ensures { λ r. ⌜ r .chart ≡ chartAfterLine chart (lineIn (now (line .entry))) ⌝ }
-    ensures { λ r. ⌜ PutInFront (answerToLine chart (lineIn (now (line .entry)))) (now (out .entry)) (now (out .exit)) (r .size) ⌝ }
-    ensures { λ r. ⌜ Counts (r .size) (now (out .exit)) ⌝ }
+fn higher(a: u8, b: u8) -> u8
+    ensures { λ r. ⌜ r ≡ max a b ⌝ }
 {
-    answer_line(chart, line, out)
+    if a < b { b } else { a }
 }

@@ -1,69 +1,99 @@
-// Text to standard output.
+// Text to standard output, and errors to standard error.
+use libc::STDERR_FILENO;
 use libc::STDOUT_FILENO;
-ghost use mathlib.Core.Path.{_≡_};
-ghost use lib.IntN.{pos, natAbs};
-ghost use lib.Signed.{ltZ};
-ghost use Rattle.guide.specs.Choice.{choose};
+use printing::put_text;
+ghost use Prim.Native.Nat.{_≤_};
+ghost use lib.ListN.{length};
+ghost use Rattle.io.specs.Counts.{Counts};
 
-pub fn say(text: &[u8]) {
-    io::write_all(STDOUT_FILENO, text);
+// The exit status of an error.
+pub const ERROR: u8 = 3;
+
+// Room for an error: the longest name, and what is wrong.
+const ERROR_ROOM: usize = 8192;
+
+// How many bytes a write took, and whether to go on.
+struct Written {
+    more: bool,
+    count: usize,
 }
 
-// A call of the system failed: what, its number, and what to do. The number's meaning stands beside it where it is a common one.
-pub fn say_failure(what: &[u8], error: i32, advice: &[u8]) {
-    say(b"error: ");
-    say(what);
-    say(b": error ");
-    io::print_decimal(STDOUT_FILENO, error_number(error));
-    say_meaning(error);
-    say(advice);
-    say(b"\n");
+pub fn say(text: &[u8]) -> bool {
+    write_text(STDOUT_FILENO, text)
 }
 
-// errno is never negative.
-fn error_number(error: i32) -> u64
-    ensures { λ r. ⌜ r ≡ choose (ltZ error (pos 0)) 0 (natAbs error) ⌝ }
+// Writes all of a text, and answers whether it could. Where nothing is taken for now, it waits. Nothing says that a write ever takes a
+// byte, so the writes are counted: 2^63 of them are more than any text needs.
+pub fn write_text(fd: i32, text: &[u8]) -> bool {
+    let mut at: usize = 0;
+    let mut left: u64 = 9223372036854775808;
+    while 0 < left {
+        if at == text.len() {
+            return true;
+        }
+        let written = write_some(fd, &text[at..]);
+        at += written.count;
+        if !written.more {
+            return false;
+        }
+        left -= 1;
+    }
+    false
+}
+
+fn write_some(fd: i32, text: &[u8]) -> Written
+    ensures { λ r. ⌜ r .count ≤ length (now (text .entry)) ⌝ }
 {
-    if error < 0 {
-        return 0;
+    let got = libc::write(fd, text);
+    let count = io::count(got, text);
+    if 0 < count {
+        return Written { more: true, count };
     }
-    error as u64
+    Written {
+        more: passes(os::errno()),
+        count: 0,
+    }
 }
 
-fn say_meaning(error: i32) {
-    if error == libc::ENOENT {
-        say(b" (no such file or folder)");
-        return;
+// Whether the failure passes by itself: nothing is taken for now, or a signal came. Then it has waited.
+fn passes(error: i32) -> bool {
+    if error == libc::EAGAIN {
+        system::pause();
+        return true;
     }
-    if error == libc::EACCES {
-        say(b" (permission denied)");
-        return;
-    }
-    if error == libc::EISDIR {
-        say(b" (it is a folder)");
-        return;
-    }
-    if error == libc::ENOTDIR {
-        say(b" (a part of the name is no folder)");
-        return;
-    }
-    if error == libc::ENOSPC {
-        say(b" (no space left)");
-        return;
-    }
-    if error == libc::EFBIG {
-        say(b" (the file would be too large)");
-        return;
-    }
-    if error == libc::EROFS {
-        say(b" (read-only)");
-        return;
-    }
-    if error == libc::ENAMETOOLONG {
-        say(b" (the name is too long)");
-        return;
-    }
-    if error == libc::EIO {
-        say(b" (the disk failed)");
-    }
+    error == libc::EINTR
+}
+
+// An error: the name of the file, and what is wrong and what to do. Answers the exit status.
+pub fn error(name: &[u8], what: &[u8]) -> u8 {
+    let mut text = [0u8; ERROR_ROOM];
+    let behind_what = put_error(&mut text, name, what);
+    let n = put_text(&mut text, behind_what, b"\n");
+    write_text(STDERR_FILENO, &text[..n]);
+    ERROR
+}
+
+// The first argument is a command's name, and no file's.
+pub fn file_first(word: &[u8]) -> u8 {
+    error(
+        word,
+        b"it is a command, and FILE comes first, as in: control_chart lead.chart show",
+    )
+}
+
+// The same as `error`, of a call of the system that has just failed: its reason follows in the system's words.
+pub fn failure(name: &[u8], what: &[u8]) -> u8 {
+    let mut text = [0u8; ERROR_ROOM];
+    let n = put_error(&mut text, name, what);
+    os::fail(&text[..n]);
+    ERROR
+}
+
+fn put_error(text: &mut [u8], name: &[u8], what: &[u8]) -> usize
+    ensures { λ r. ⌜ Counts r (now (text .exit)) ⌝ }
+{
+    let at_name = put_text(text, 0, b"error: ");
+    let behind_name = put_text(text, at_name, name);
+    let at_what = put_text(text, behind_name, b": ");
+    put_text(text, at_what, what)
 }

@@ -1,5 +1,6 @@
--- Bytes and fields, then numbers, then hex digits.
+-- Bytes, texts and fields, then numbers, then hex digits.
 pub mod Tests
+pub mod FrontEnd
 mod FirstField
 mod LineEnd
 mod Values

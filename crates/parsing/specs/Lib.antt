@@ -2,3 +2,4 @@ pub mod Bytes
 pub mod Fields
 pub mod Number
 pub mod Hex
+pub mod Text

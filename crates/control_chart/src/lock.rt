@@ -1,0 +1,53 @@
+// The lock of a file: `FILE.lock`, which only one process can make. Its maker reads FILE after that, writes the new form into the lock and
+// renames it over FILE, or removes it. Nobody else removes it.
+use crate::say::error;
+use crate::say::failure;
+use printing::put_text;
+ghost use Rattle.io.specs.Counts.{Counts};
+
+// How often the lock is tried for, with a pause of 5 ms after each: for two seconds.
+const TRIES: u32 = 400;
+
+// The lock's name: FILE's, and `.lock`.
+pub fn put_lock_name(path: &[u8], name: &mut [u8]) -> usize
+    ensures { λ r. ⌜ Counts r (now (name .exit)) ⌝ }
+{
+    let behind_path = put_text(name, 0, path);
+    put_text(name, behind_path, b".lock")
+}
+
+// Makes the lock, and answers a descriptor that is open for writing to it; below 0 where it was not made, and then it is said why.
+pub fn take_lock(path: &[u8], lock: &[u8]) -> i32 {
+    let mut left = TRIES;
+    while 0 < left {
+        let fd = os::create(lock);
+        if 0 <= fd {
+            return fd;
+        }
+        if os::errno() != libc::EEXIST {
+            failure(path, b"its lock cannot be made, and nothing was done");
+            return fd;
+        }
+        system::pause();
+        left -= 1;
+    }
+    say_locked(path, lock);
+    -1
+}
+
+fn say_locked(path: &[u8], lock: &[u8]) {
+    let mut text = io::buffer();
+    let at_name = put_text(
+        &mut text,
+        0,
+        b"another command is at work on it, and nothing was done; if none is, one was stopped: remove ",
+    );
+    let behind_name = put_text(&mut text, at_name, lock);
+    let n = put_text(&mut text, behind_name, b" and repeat the command");
+    error(path, &text[..n]);
+}
+
+// Removes the lock that this process made. The file stays as it is.
+pub fn release(lock: &[u8]) {
+    os::unlink(lock);
+}

@@ -1,0 +1,54 @@
+-- What the name in a line says before the command is done.
+use mathlib.Core.Bool.{Bool, true, false, not}
+use mathlib.Core.List.{List, [], _∷_}
+use Prim.Native.Nat.{ℕ}
+use Rattle.parsing.specs.Fields.{fieldsOf}
+use Rattle.commands.specs.declared.names.Name.{Name}
+use Rattle.commands.specs.declared.names.Name.the-variants as name
+use Rattle.commands.specs.Command.{firstField, isComment, nameIn}
+
+abbrev pub isCommand : List (List ℕ) → Bool
+isCommand [] = false
+isCommand (first ∷ fields) = not (isComment first)
+
+-- the line is not passed over
+unfoldable pub hasCommand : List ℕ → Bool
+hasCommand line = isCommand (fieldsOf line)
+
+-- the name in the line's first field
+unfoldable pub nameOf : List ℕ → Name
+nameOf line = nameIn (firstField (fieldsOf line))
+
+-- the commands that may change the chart; the others leave it (`proofs/Reading`)
+abbrev pub changes : Name → Bool
+changes name.Build = true
+changes name.Post = true
+changes name.Reanalyse = true
+changes name.Correct = true
+changes name.Renew = true
+changes name.Read = true
+changes name.Word = false
+changes name.Lines = false
+changes name.Write = false
+changes name.Show = false
+changes name.Other = false
+
+unfoldable pub mayChange : List ℕ → Bool
+mayChange line = changes (nameOf line)
+
+-- a command's name
+abbrev pub isCommandName : Name → Bool
+isCommandName name.Build = true
+isCommandName name.Post = true
+isCommandName name.Reanalyse = true
+isCommandName name.Correct = true
+isCommandName name.Renew = true
+isCommandName name.Read = true
+isCommandName name.Word = true
+isCommandName name.Lines = true
+isCommandName name.Write = true
+isCommandName name.Show = true
+isCommandName name.Other = false
+
+unfoldable pub isName : List ℕ → Bool
+isName word = isCommandName (nameIn word)
