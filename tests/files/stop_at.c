@@ -88,10 +88,10 @@ static void put_text(pid_t pid, unsigned long long at, FILE *log) {
 static void put_call(pid_t pid, const struct user_regs_struct *r, FILE *log) {
     fprintf(log, "%lld %lld %lld %lld", (long long)r->orig_rax, (long long)r->rdi, (long long)r->rsi, (long long)r->rdx);
     switch (r->orig_rax) {
-    case SYS_open: case SYS_creat: case SYS_unlink:
+    case SYS_open: case SYS_creat: case SYS_unlink: case SYS_access: case SYS_readlink:
         put_text(pid, r->rdi, log);
         break;
-    case SYS_openat: case SYS_unlinkat:
+    case SYS_openat: case SYS_unlinkat: case SYS_faccessat: case SYS_readlinkat:
         put_text(pid, r->rsi, log);
         break;
     case SYS_rename: case SYS_link:

@@ -1,13 +1,14 @@
--- The fields of a line from a byte on: the first field and those behind it (`first-field-is`, `fields-behind`), the number in the first
--- (`number-found`), how much of the line remains behind it (`remaining`), and four numbers one behind the other (`readings-found`).
+-- The fields of a line from a byte on: the first field and those behind it (`none-found`, `one-found`, `first-field-is`, `fields-behind`),
+-- whether it begins a comment (`comment-found`), the number in the first (`number-found`), how much of the line remains behind it
+-- (`remaining`), and four numbers one behind the other (`readings-found`).
 use mathlib.Core.Path.{_≡_, sym, ap, _∙_}
 use mathlib.Core.Bool.{Bool, true, not}
 use mathlib.Core.List.{List, [], _∷_}
 use Prim.Native.Nat.{ℕ, zero, suc, _+_, _-_, _<_, _≤_}
 use native.Mathlib.Omega.{arith}
 use borrow.Author.Tests.{lt-ltb, le-ltb, ltb-true, ne-eqb}
-use lib.ListN.{length, take, drop, length-drop}
-use lib.Seq.{take-all, drop-drop}
+use lib.ListN.{length, take, drop, getD, length-drop}
+use lib.Seq.{take-all, drop-cons, drop-drop}
 use lib.Dec.{eqb, ltb}
 use lib.IntN.{ℤ}
 use Rattle.guide.specs.Choice.{choose}
@@ -17,7 +18,7 @@ use Rattle.parsing.specs.declared.numbers.Number.{Number}
 use Rattle.parsing.specs.Fields.{isBlank, inFront, startingWith, fieldsOf, between, IsFirstField}
 use Rattle.parsing.specs.Number.{numberIn, numberSays, kindOf, readingOf}
 use Rattle.commands.specs.declared.numbers.NumberAt.{NumberAt}
-use Rattle.commands.specs.Command.{firstField, firstNumber}
+use Rattle.commands.specs.Command.{firstField, firstNumber, isComment}
 use Rattle.commands.specs.Answers.{fieldsFrom, IsNumberAt, AreReadings}
 
 -- the part of a line that begins at a byte, as a slice
@@ -62,11 +63,21 @@ no-fields-behind (b ∷ text) (suc i) e = no-fields-behind text i (no-field-late
 -- ---- the first field of a text
 
 module _ {text : List ℕ} {start end : ℕ} (field : IsFirstField text start end) where
-  none-found : end ≤ start → fieldsOf text ≡ []
+  pub none-found : end ≤ start → fieldsOf text ≡ []
   none-found none = rw (le-ltb start end none) at (field .fields)
 
-  one-found : start < end → fieldsOf text ≡ between start end text ∷ fieldsOf (drop end text)
+  pub one-found : start < end → fieldsOf text ≡ between start end text ∷ fieldsOf (drop end text)
   one-found some = rw (lt-ltb start end some) at (field .fields)
+
+  -- the field's first byte
+  comment-by : start < end → (b : ℕ) (rest : List ℕ) → drop start text ≡ b ∷ rest → isComment (between start end text) ≡ eqb b 35
+  comment-by some b rest e =
+      let more : end - start ≡ suc (end - start - 1) = omega arith in
+      rw (e, more)
+
+  pub comment-found : start < end → isComment (between start end text) ≡ eqb (getD text start 0) 35
+  comment-found some =
+      comment-by some (getD text start 0) (drop (suc start) text) (drop-cons text start 0 (omega (arith, field .within)))
 
   pub field-is-there : ltb start end ≡ someField (fieldsOf text)
   field-is-there =

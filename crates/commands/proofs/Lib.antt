@@ -1,6 +1,6 @@
 -- The fields of a line, what is wrong with them, the words and the bytes in them, and the commands' names; what a line is; what a command
 -- replies, and the room that it takes; that `read` takes what `write` prints.
-mod Fields
+pub mod Fields
 mod FirstFault
 mod WordsPut
 mod Fronts

@@ -3,11 +3,10 @@
 use mathlib.Core.Path.{_≡_, refl, sym, ap, _∙_}
 use mathlib.Core.Bool.{Bool, true, false}
 use mathlib.Core.List.{List, [], _∷_, _++_}
-use Prim.Native.Nat.{ℕ, zero, suc, _-_, _≤_, _<_}
+use Prim.Native.Nat.{ℕ, zero, suc, _≤_, _<_}
 use native.Mathlib.Omega.{arith}
-use borrow.Author.Tests.{lt-leb, le-leb, lt-ltb, le-ltb}
+use borrow.Author.Tests.{lt-leb, le-leb}
 use lib.ListN.{length, drop, getD}
-use lib.Seq.{drop-cons}
 use lib.Dec.{eqb}
 use Rattle.chart.specs.declared.Chart.{Chart}
 use Rattle.parsing.specs.Fields.{fieldsOf, between, IsFirstField}
@@ -16,9 +15,10 @@ use Rattle.printing.proofs.Putting.{puts-then}
 use Rattle.replies.specs.Faults.{lineTooLong}
 use Rattle.commands.specs.declared.names.Name.{Name}
 use Rattle.commands.specs.declared.names.Name.the-variants as name
-use Rattle.commands.specs.Command.{Line, passedOver, faulty, lineMost, commandFor, faultFor, isComment, nameIn, namedLine, lineOf, lineIn}
+use Rattle.commands.specs.Command.{Line, passedOver, faulty, lineMost, commandFor, faultFor, nameIn, namedLine, lineOf, lineIn}
 use Rattle.commands.specs.Reply.{replyToLine, answerToLine}
 use Rattle.commands.specs.Answers.{Answers, Replies, fieldsFrom}
+use Rattle.commands.proofs.Fields.{none-found, one-found, comment-found}
 
 pub too-long : (text : List ℕ) → lineMost < length text → lineIn text ≡ faulty lineTooLong
 unfolding lineIn
@@ -43,33 +43,19 @@ module _ (text : List ℕ) (start end : ℕ) (short : length text ≤ lineMost) 
 
   pub no-field : start ≡ end → lineIn text ≡ passedOver
   unfolding lineOf
-  no-field e =
-      let none : fieldsOf text ≡ [] = rw (le-ltb start end (omega arith)) at (f .fields) in
-      by-fields ∙ ap lineOf none
+  no-field e = by-fields ∙ ap lineOf (none-found f (omega arith))
 
   module _ (some : start < end) where
-    found : fieldsOf text ≡ between start end text ∷ fieldsOf (drop end text)
-    found = rw (lt-ltb start end some) at (f .fields)
-
-    -- the field's first byte
-    begins : (b : ℕ) (rest : List ℕ) → drop start text ≡ b ∷ rest → isComment (between start end text) ≡ eqb b 35
-    begins b rest e =
-        let more : end - start ≡ suc (end - start - 1) = omega arith in
-        rw (e, more)
-
-    first-byte : isComment (between start end text) ≡ eqb (getD text start 0) 35
-    first-byte = begins (getD text start 0) (drop (suc start) text) (drop-cons text start 0 (omega (arith, f .within)))
-
     pub a-comment : eqb (getD text start 0) 35 ≡ true → lineIn text ≡ passedOver
     unfolding lineOf
-    a-comment e = by-fields ∙ ap lineOf found ∙ rw (first-byte, e)
+    a-comment e = by-fields ∙ ap lineOf (one-found f some) ∙ rw (comment-found f some, e)
 
     -- a command, by its name and the fault of the fields behind it
     module _ (e : eqb (getD text start 0) 35 ≡ false) (n : Name) (named : n ≡ nameIn (between start end text))
         (fault : ℕ) (found-fault : fault ≡ faultFor n (fieldsOf (drop end text))) where
       a-command : lineIn text ≡ namedLine n (fieldsOf (drop end text))
       unfolding lineOf
-      a-command = by-fields ∙ ap lineOf found ∙ rw (first-byte, e, ← named)
+      a-command = by-fields ∙ ap lineOf (one-found f some) ∙ rw (comment-found f some, e, ← named)
 
       pub a-fault : (fault ≡ 0 → ⊥) → lineIn text ≡ faulty fault
       a-fault some-fault = a-command ∙ with-fault n (fieldsOf (drop end text)) fault found-fault some-fault

@@ -21,6 +21,7 @@ use outcomes::status::exit_status;
 use printing::put_byte;
 use printing::put_text;
 use system::Permissions;
+ghost use mathlib.Core.Path.{_≡_};
 ghost use mathlib.Core.List.{[], _∷_};
 ghost use Prim.Native.Nat.{_≤_};
 ghost use lib.ListN.{length};

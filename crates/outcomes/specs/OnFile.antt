@@ -4,8 +4,8 @@
 use mathlib.Core.Path.{_≡_}
 use mathlib.Core.Bool.{Bool, true, false}
 use mathlib.Core.List.{List, []}
-use Prim.Native.Nat.{ℕ}
-use lib.ListN.{length}
+use Prim.Native.Nat.{ℕ, _≤_}
+use lib.ListN.{length, take}
 use lib.Dec.{eqb, leb}
 use Rattle.guide.specs.Choice.{require, choose}
 use Rattle.guide.specs.StoredForm.{storedForm}
@@ -101,7 +101,11 @@ ending (onChart c held) line room = keeping (chartAfterLine c (lineIn line)) hel
 ending (fault n) line room = record { outcome = outcome.Fault; form = []; text = faultText n }
 
 -- the contract: the outcome, every byte of both buffers, and how many of them are the form and the text
-pub record Ends (e : Ending) (form form′ out out′ : List ℕ) (r : OnFile) : Type 0 where
+pub record Ends (e : Ending) (before after out out′ : List ℕ) (r : OnFile) : Type 0 where
   pub outcome : r .outcome ≡ e .outcome
-  pub form : PutInFront (e .form) form form′ (r .form)
+  pub form : PutInFront (e .form) before after (r .form)
   pub text : Puts out 0 (e .text) out′ (r .size)
+
+-- n counts bytes at the front of a buffer, in the words of the kit's `io`, by which such bytes are lent without a proof
+abbrev pub Counts : ℕ → List ℕ → Type 0
+Counts n buffer = (n ≤ length buffer) × (n ≡ length (take n buffer))

@@ -1,24 +1,47 @@
--- The exit status of an answer, by its text, which ends in a line feed (10): only 0 lets a batch go. `proofs/Statuses` has it for what the
--- calls answer.
-use mathlib.Core.Bool.{Bool, _||_}
+-- The exit status of an answer, for scripts: only 0 lets a batch go. The program finds it by the answer's text (`statusOf`). `proofs/Statuses`
+-- has that it is the status by what the command came to (`statusTo`), whatever the chart and the line.
+use mathlib.Core.Bool.{Bool, _&&_, _||_}
 use mathlib.Core.List.{List, [], _∷_, _++_}
 use Prim.Native.Nat.{ℕ}
-use Rattle.guide.specs.Choice.{choose}
+use lib.Dec.{eqb}
+use Rattle.guide.specs.Choice.{require, choose}
+use Rattle.guide.specs.Word.{Formed, wordAlone}
+use Rattle.guide.specs.Word as word
+use Rattle.guide.specs.Building.{BuildingAnswer, building}
+use Rattle.guide.specs.Building as guideBuilding
+use Rattle.guide.specs.Machine.{Answer, judged, reanalysed, corrected, renewed, refused}
+use Rattle.guide.specs.Machine as machine
+use Rattle.guide.specs.Reading.{ReadingAnswer, reading}
+use Rattle.guide.specs.Reading as guideReading
+use Rattle.guide.specs.ChartLines.{ChartLinesAnswer}
+use Rattle.guide.specs.ChartLines as chartLines
+use Rattle.chart.specs.declared.Chart.{Chart}
+use Rattle.chart.specs.Calls.{answerTo}
+use Rattle.chart.specs.Soundness.{soundChart}
+use Rattle.lines.specs.Lines.{answerToLines}
 use Rattle.parsing.specs.Text.{begins, ends}
 use Rattle.replies.specs.Ascii.{ascii}
+use Rattle.commands.specs.Command.{Command, Line}
+use Rattle.commands.specs.Command as command
+
+-- ---- by the text, which ends in a line feed (10)
 
 -- the text's last line ends so
 abbrev pub saysAtEnd : List ℕ → List ℕ → Bool
 saysAtEnd answer text = ends answer (text ++ (10 ∷ []))
 
--- a verdict other than 0, or a failed reanalysis
-unfoldable pub holdsBatch : List ℕ → Bool
-holdsBatch answer =
+-- a verdict other than 0, or a failed reanalysis, at the end
+unfoldable pub holdsByEnd : List ℕ → Bool
+holdsByEnd answer =
     (((saysAtEnd answer (ascii " failed")
     || saysAtEnd answer (ascii " verdict 1"))
     || saysAtEnd answer (ascii " verdict 2"))
     || saysAtEnd answer (ascii " verdict 3"))
     || saysAtEnd answer (ascii " verdict 4")
+
+-- .. behind a word
+unfoldable pub holdsBatch : List ℕ → Bool
+holdsBatch answer = begins answer (ascii "word ") && holdsByEnd answer
 
 -- 3 an error, 2 a refusal, 1 hold the batch, 0 otherwise
 unfoldable pub statusOf : List ℕ → ℕ
@@ -26,3 +49,47 @@ statusOf answer =
     choose (begins answer (ascii "error")) 3
     (choose (begins answer (ascii "refused")) 2
     (choose (holdsBatch answer) 1 0))
+
+-- ---- by what the command came to
+
+-- a call: 1 for a verdict other than 0, and for a failed reanalysis
+abbrev pub statusOfAnswer : Answer → ℕ
+statusOfAnswer (judged w v) = choose (eqb v 0) 0 1
+statusOfAnswer (reanalysed w passed) = choose passed 0 1
+statusOfAnswer corrected = 0
+statusOfAnswer (renewed rounds removed) = 0
+statusOfAnswer (refused n) = 2
+
+abbrev pub statusOfFormed : Formed → ℕ
+statusOfFormed (word.formed w) = 0
+statusOfFormed (word.refused n) = 2
+
+abbrev pub statusOfBuilding : BuildingAnswer → ℕ
+statusOfBuilding (guideBuilding.built s rounds removed) = 0
+statusOfBuilding (guideBuilding.refused n) = 2
+
+abbrev pub statusOfLines : ChartLinesAnswer → ℕ
+statusOfLines (chartLines.linesGiven lines) = 0
+statusOfLines (chartLines.refused n) = 2
+
+abbrev pub statusOfReading : ReadingAnswer → ℕ
+statusOfReading (guideReading.taken s) = 0
+statusOfReading (guideReading.refused n) = 2
+
+unfoldable pub statusToCommand : Chart → Command → ℕ
+statusToCommand chart (command.word kind a b c) = statusOfFormed (wordAlone kind a b c)
+statusToCommand chart (command.build kind words) = statusOfBuilding (building kind words)
+statusToCommand chart (command.post kind a b c) = statusOfAnswer (answerTo chart (machine.post kind a b c))
+statusToCommand chart (command.reanalyse kind a b c) = statusOfAnswer (answerTo chart (machine.reanalysis kind a b c))
+statusToCommand chart command.correct = statusOfAnswer (answerTo chart machine.correction)
+statusToCommand chart command.renew = statusOfAnswer (answerTo chart machine.renewal)
+statusToCommand chart command.lines = statusOfLines (answerToLines chart)
+statusToCommand chart command.write = require (soundChart chart) 2 0
+statusToCommand chart (command.read bytes) = statusOfReading (reading bytes)
+statusToCommand chart command.show = 0
+
+-- nothing is done for a line that is passed over, and a fault is an error
+abbrev pub statusTo : Chart → Line → ℕ
+statusTo chart command.passedOver = 0
+statusTo chart (command.faulty n) = 3
+statusTo chart (command.asked c) = statusToCommand chart c

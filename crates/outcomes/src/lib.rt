@@ -16,7 +16,7 @@ ghost use mathlib.Core.Path.{_≡_};
 ghost use lib.ListN.{length};
 ghost use Rattle.printing.specs.Output.{Puts};
 ghost use Rattle.outcomes.specs.declared.Outcome.the-variants as outcome;
-ghost use Rattle.outcomes.specs.OnFile.{bytes, noFile, heldIn, onChart, startFrom, startOf, ending, Ends, faultText, ofForm, notWritten};
+ghost use Rattle.outcomes.specs.OnFile.{bytes, noFile, heldIn, onChart, startFrom, startOf, ending, Ends, Counts, faultText, ofForm, notWritten};
 
 pub enum Outcome {
     // The command is answered, and the file stays as it is.
@@ -45,6 +45,8 @@ const NO_FILE: u16 = 2;
 // for every form and every text.
 pub fn on_file(there: bool, held: &[u8], line: &[u8], form: &mut [u8], out: &mut [u8]) -> OnFile
     ensures { λ r. ⌜ Ends (ending (startOf (heldIn there (now (held .entry))) (now (line .entry))) (now (line .entry)) (length (now (form .entry)))) (now (form .entry)) (now (form .exit)) (now (out .entry)) (now (out .exit)) r ⌝ }
+    ensures { λ r. ⌜ Counts (r .form) (now (form .exit)) ⌝ }
+    ensures { λ r. ⌜ Counts (r .size) (now (out .exit)) ⌝ }
 {
     if !has_command(line) {
         return fault(NO_COMMAND, out);

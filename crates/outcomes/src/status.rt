@@ -2,7 +2,7 @@
 use parsing::text::begins_with;
 use parsing::text::ends_with;
 ghost use mathlib.Core.Path.{_≡_};
-ghost use Rattle.outcomes.specs.Status.{holdsBatch, statusOf};
+ghost use Rattle.outcomes.specs.Status.{holdsByEnd, holdsBatch, statusOf};
 
 // 3 an error, 2 a refusal, 1 hold the batch, 0 otherwise.
 pub fn exit_status(answer: &[u8]) -> u8
@@ -20,9 +20,15 @@ pub fn exit_status(answer: &[u8]) -> u8
     0
 }
 
-// A verdict other than 0, or a failed reanalysis.
+// A verdict other than 0, or a failed reanalysis, behind a word.
 fn holds_batch(answer: &[u8]) -> bool
     ensures { λ r. ⌜ r ≡ holdsBatch (now (answer .entry)) ⌝ }
+{
+    begins_with(answer, b"word ") & holds_by_end(answer)
+}
+
+fn holds_by_end(answer: &[u8]) -> bool
+    ensures { λ r. ⌜ r ≡ holdsByEnd (now (answer .entry)) ⌝ }
 {
     ends_with(answer, b" failed\n")
         | ends_with(answer, b" verdict 1\n")

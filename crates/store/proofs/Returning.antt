@@ -36,39 +36,39 @@ wrote-by true false size n e = let z : _≡_ {A = ℕ} 0 1 = cc in absurd (omega
 wrote-by false room size n e = let z : _≡_ {A = ℕ} 0 1 = cc in absurd (omega arith)
 
 module _ (c : Chart) (before after : List ℕ) (n : ℕ) (w : Writes c before after (Done n)) where
-  facts : (soundChart c ≡ true) × ((hasRoom (stateOf c) before ≡ true) × (n ≡ length (storedForm (stateOf c))))
+  pub written-facts : (soundChart c ≡ true) × ((hasRoom (stateOf c) before ≡ true) × (n ≡ length (storedForm (stateOf c))))
   unfolding writeSays answerToWrite writing
-  facts = wrote-by (soundChart c) (hasRoom (stateOf c) before) (length (storedForm (stateOf c))) n (w .says)
+  written-facts = wrote-by (soundChart c) (hasRoom (stateOf c) before) (length (storedForm (stateOf c))) n (w .says)
 
   pub written-sound : soundChart c ≡ true
-  written-sound = facts .0
+  written-sound = written-facts .0
 
-  after-is : after ≡ storedForm (stateOf c) ++ drop (length (storedForm (stateOf c))) before
+  pub written-after : after ≡ storedForm (stateOf c) ++ drop (length (storedForm (stateOf c))) before
   unfolding bufferAfterWrite bufferAfter
-  after-is = rw (facts .0, facts .1 .0) at (w .buffer)
+  written-after = rw (written-facts .0, written-facts .1 .0) at (w .buffer)
 
   -- as many bytes are there as were written, and they are the form
   pub written-fits : n ≤ length after
   written-fits =
       let f = storedForm (stateOf c) in
-      omega (arith, facts .1 .1, ap length after-is, length-append f (drop (length f) before))
+      omega (arith, written-facts .1 .1, ap length written-after, length-append f (drop (length f) before))
 
   pub written-count : n ≡ length (take n after)
   written-count = sym (length-take-le n after written-fits)
 
   pub written-form : take n after ≡ storedForm (stateOf c)
-  written-form = ap (take n) after-is ∙ take-at (storedForm (stateOf c)) _ n (sym (facts .1 .1))
+  written-form = ap (take n) written-after ∙ take-at (storedForm (stateOf c)) _ n (sym (written-facts .1 .1))
 
   -- reading them gives the chart again
   pub returned : length (c .base) ≡ baseMost → length (c .series) ≡ seriesMost
       → (r : ReadChart) → IsRead (reading (take n after)) r → Returns c before after r
   unfolding chartReturned answerToReturn chartAfterReading
   returned base series r is =
-      let g = given c base series (facts .0) in
+      let g = given c base series (written-facts .0) in
       let read : reading (take n after) ≡ taken (stateOf c) = ap reading written-form ∙ read-stored (stateOf c) (g .facts .state) in
       record {
-        chart = rw (facts .0, facts .1 .0) (is .chart ∙ (ap chartAfterReading read ∙ chart-of-state c g));
-        says = rw (facts .0, facts .1 .0) (is .says ∙ read);
+        chart = rw (written-facts .0, written-facts .1 .0) (is .chart ∙ (ap chartAfterReading read ∙ chart-of-state c g));
+        says = rw (written-facts .0, written-facts .1 .0) (is .says ∙ read);
         buffer = w .buffer;
       }
 

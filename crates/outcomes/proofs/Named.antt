@@ -1,0 +1,132 @@
+-- Laws of the name in a line: a line without a command is passed over (`no-command`), a command that may not change the chart leaves it
+-- (`only-reads`), and `build` may change it (`builds`). The rest is what the functions of `names` find: by the first field (`no-field`,
+-- `a-field`), and by the names that a match does not tell (`leaves`, `some-name`).
+use mathlib.Core.Path.{_≡_, refl, sym, ap, _∙_}
+use mathlib.Core.Bool.{Bool, true, false, not}
+use mathlib.Core.List.{List, [], _∷_}
+use Prim.Native.Nat.{ℕ, zero, suc, _<_, _≤_}
+use native.Mathlib.Omega.{arith}
+use borrow.Author.Tests.{le-leb, not-false}
+use lib.ListN.{length, getD}
+use lib.Dec.{eqb, leb}
+use denote.Enum.Declared.{tagOf}
+use types.Run.{OneOf, miss}
+use Rattle.guide.specs.Choice.{choose}
+use Rattle.guide.proofs.Booleans.{by-test}
+use Rattle.guide.proofs.Choice.{choose-ind, require-ind}
+use Rattle.chart.specs.declared.Chart.{Chart}
+use Rattle.parsing.specs.Bytes.{sameBytes}
+use Rattle.parsing.specs.Fields.{fieldsOf, IsFirstField}
+use Rattle.parsing.proofs.Tests.{same-equal}
+use Rattle.replies.specs.Ascii.{ascii}
+use Rattle.commands.specs.declared.names.Name.{Name}
+use Rattle.commands.specs.declared.names.Name.the-variants as name
+use Rattle.commands.proofs.names.Name.{the-type}
+use Rattle.commands.specs.Command.{Line, passedOver, faulty, asked, lineMost, isComment, firstField, nameIn, faultFor, commandFor}
+use Rattle.commands.specs.Command.{unlessFaulty, namedLine, lineOf, lineIn, isBuild}
+use Rattle.commands.specs.Reply.{chartAfterCommand, chartAfterLine}
+use Rattle.commands.proofs.Fields.{none-found, one-found, comment-found}
+use Rattle.outcomes.specs.Naming.{isCommand, hasCommand, nameOf, changes, mayChange, isCommandName}
+
+-- ---- what the line is
+
+none-passed : (fields : List (List ℕ)) → isCommand fields ≡ false → lineOf fields ≡ passedOver
+unfolding lineOf
+none-passed [] e = refl
+none-passed (first ∷ fields) e = rw (not-false (isComment first) e)
+
+pub no-command : (text : List ℕ) → hasCommand text ≡ false → length text ≤ lineMost → lineIn text ≡ passedOver
+unfolding hasCommand lineIn
+no-command text e short = rw (le-leb (length text) lineMost short) (none-passed (fieldsOf text) e)
+
+-- ---- what becomes of the chart
+
+-- a command by its name, without a fault and with one
+command-reads : (n : Name) (fields : List (List ℕ)) (c : Chart) → changes n ≡ false → chartAfterLine c (commandFor n fields) ≡ c
+unfolding commandFor chartAfterCommand
+command-reads name.Word fields c e = refl
+command-reads name.Build fields c e = cc
+command-reads name.Post fields c e = cc
+command-reads name.Reanalyse fields c e = cc
+command-reads name.Correct fields c e = cc
+command-reads name.Renew fields c e = cc
+command-reads name.Lines fields c e = refl
+command-reads name.Write fields c e = refl
+command-reads name.Read fields c e = cc
+command-reads name.Show fields c e = refl
+command-reads name.Other fields c e = refl
+
+unless-faulty : (fault : ℕ) (line : Line) (c : Chart) → chartAfterLine c line ≡ c → chartAfterLine c (unlessFaulty fault line) ≡ c
+unless-faulty zero line c e = e
+unless-faulty (suc fault) line c e = refl
+
+fields-read : (fields : List (List ℕ)) (c : Chart) → changes (nameIn (firstField fields)) ≡ false → chartAfterLine c (lineOf fields) ≡ c
+unfolding lineOf namedLine
+fields-read [] c e = refl
+fields-read (first ∷ fields) c e =
+    let n = nameIn first in
+    choose-ind (λ line. chartAfterLine c line ≡ c) (isComment first) passedOver (namedLine n fields)
+    (λ _. refl)
+    (λ _. unless-faulty (faultFor n fields) (commandFor n fields) c (command-reads n fields c e))
+
+pub only-reads : (text : List ℕ) → mayChange text ≡ false → (c : Chart) → chartAfterLine c (lineIn text) ≡ c
+unfolding mayChange nameOf lineIn
+only-reads text e c =
+    require-ind (λ line. chartAfterLine c line ≡ c) (leb (length text) lineMost) (faulty 8) (lineOf (fieldsOf text))
+    (λ _. fields-read (fieldsOf text) c e)
+    (λ _. refl)
+
+named-build : (word : List ℕ) → sameBytes word (ascii "build") ≡ true → nameIn word ≡ name.Build
+unfolding nameIn sameBytes
+named-build word t = rw (same-equal word (ascii "build") t)
+
+pub builds : (text : List ℕ) → isBuild text ≡ true → mayChange text ≡ true
+unfolding isBuild mayChange nameOf
+builds text t = ap changes (named-build (firstField (fieldsOf text)) t)
+
+-- ---- what the functions find
+
+module _ {text : List ℕ} {start end : ℕ} (field : IsFirstField text start end) where
+  pub no-field : start ≡ end → false ≡ hasCommand text
+  unfolding hasCommand
+  no-field e = rw (none-found field (omega arith))
+
+  pub a-field : (start ≡ end → ⊥) → not (eqb (getD text start 0) 35) ≡ hasCommand text
+  unfolding hasCommand
+  a-field ne =
+      let some : start < end = omega (arith, field .ordered) in
+      rw (one-found field some, comment-found field some)
+
+-- the names that stand in the `_` of a match, by their numbers in the enum
+
+abbrev leaving : List ℕ
+leaving = 0 ∷ 6 ∷ 7 ∷ 9 ∷ 10 ∷ []
+
+pub leaves : (n : Name) → OneOf leaving (tagOf the-type n) → false ≡ changes n
+leaves name.Word keys = refl
+leaves name.Build keys = absurd (miss leaving 1 tt keys)
+leaves name.Post keys = absurd (miss leaving 2 tt keys)
+leaves name.Reanalyse keys = absurd (miss leaving 3 tt keys)
+leaves name.Correct keys = absurd (miss leaving 4 tt keys)
+leaves name.Renew keys = absurd (miss leaving 5 tt keys)
+leaves name.Lines keys = refl
+leaves name.Write keys = refl
+leaves name.Read keys = absurd (miss leaving 8 tt keys)
+leaves name.Show keys = refl
+leaves name.Other keys = refl
+
+abbrev commandNames : List ℕ
+commandNames = 0 ∷ 1 ∷ 2 ∷ 3 ∷ 4 ∷ 5 ∷ 6 ∷ 7 ∷ 8 ∷ 9 ∷ []
+
+pub some-name : (n : Name) → OneOf commandNames (tagOf the-type n) → true ≡ isCommandName n
+some-name name.Word keys = refl
+some-name name.Build keys = refl
+some-name name.Post keys = refl
+some-name name.Reanalyse keys = refl
+some-name name.Correct keys = refl
+some-name name.Renew keys = refl
+some-name name.Lines keys = refl
+some-name name.Write keys = refl
+some-name name.Read keys = refl
+some-name name.Show keys = refl
+some-name name.Other keys = absurd (miss commandNames 10 tt keys)
