@@ -1,7 +1,7 @@
 -- Laws of the line that a text is: too long (`too-long`), passed over (`no-field`, `a-comment`), with a fault (`a-fault`) and without (`no-fault`); and
 -- of the line feed behind a reply (`line-fed`).
-use mathlib.Core.Path.{_≡_, refl, sym, ap, _∙_}
-use mathlib.Core.Bool.{Bool, true, false}
+use mathlib.Core.Path.{_≡_, refl, ap, _∙_}
+use mathlib.Core.Bool.{true, false}
 use mathlib.Core.List.{List, [], _∷_, _++_}
 use Prim.Native.Nat.{ℕ, zero, suc, _≤_, _<_}
 use native.Mathlib.Omega.{arith}
@@ -15,9 +15,9 @@ use Rattle.printing.proofs.Putting.{puts-then}
 use Rattle.replies.specs.Faults.{lineTooLong}
 use Rattle.commands.specs.declared.names.Name.{Name}
 use Rattle.commands.specs.declared.names.Name.the-variants as name
-use Rattle.commands.specs.Command.{Line, passedOver, faulty, lineMost, commandFor, faultFor, nameIn, namedLine, lineOf, lineIn}
+use Rattle.commands.specs.Command.{passedOver, faulty, lineMost, commandFor, faultFor, nameIn, namedLine, lineOf, lineIn}
 use Rattle.commands.specs.Reply.{replyToLine, answerToLine}
-use Rattle.commands.specs.Answers.{Answers, Replies, fieldsFrom}
+use Rattle.commands.specs.Answers.{Answers, Replies}
 use Rattle.commands.proofs.Fields.{none-found, one-found, comment-found}
 
 pub too-long : (text : List ℕ) → lineMost < length text → lineIn text ≡ faulty lineTooLong

@@ -37,14 +37,20 @@ pub fn take_lock(path: &[u8], lock: &[u8]) -> i32 {
 
 fn say_locked(path: &[u8], lock: &[u8]) {
     let mut text = io::buffer();
+    let n = put_locked(lock, &mut text);
+    error(path, &text[..n]);
+}
+
+fn put_locked(lock: &[u8], text: &mut [u8]) -> usize
+    ensures { λ r. ⌜ Counts r (now (text .exit)) ⌝ }
+{
     let at_name = put_text(
-        &mut text,
+        text,
         0,
         b"another command is at work on it, and nothing was done; if none is, one was stopped: remove ",
     );
-    let behind_name = put_text(&mut text, at_name, lock);
-    let n = put_text(&mut text, behind_name, b" and repeat the command");
-    error(path, &text[..n]);
+    let behind_name = put_text(text, at_name, lock);
+    put_text(text, behind_name, b" and repeat the command")
 }
 
 // Removes the lock that this process made. The file stays as it is.

@@ -2,6 +2,7 @@
 use libc::STDERR_FILENO;
 use libc::STDOUT_FILENO;
 use printing::put_text;
+ghost use mathlib.Core.Path.{_≡_};
 ghost use Prim.Native.Nat.{_≤_};
 ghost use lib.ListN.{length};
 ghost use Rattle.io.specs.Counts.{Counts};
@@ -65,16 +66,19 @@ fn passes(error: i32) -> bool {
 }
 
 // An error: the name of the file, and what is wrong and what to do. Answers the exit status.
-pub fn error(name: &[u8], what: &[u8]) -> u8 {
+pub fn error(name: &[u8], what: &[u8]) -> u8
+    ensures { λ r. ⌜ r ≡ 3 ⌝ }
+{
     let mut text = [0u8; ERROR_ROOM];
-    let behind_what = put_error(&mut text, name, what);
-    let n = put_text(&mut text, behind_what, b"\n");
+    let n = put_error(&mut text, name, what, b"\n");
     write_text(STDERR_FILENO, &text[..n]);
     ERROR
 }
 
 // The first argument is a command's name, and no file's.
-pub fn file_first(word: &[u8]) -> u8 {
+pub fn file_first(word: &[u8]) -> u8
+    ensures { λ r. ⌜ r ≡ 3 ⌝ }
+{
     error(
         word,
         b"it is a command, and FILE comes first, as in: control_chart lead.chart show",
@@ -82,18 +86,22 @@ pub fn file_first(word: &[u8]) -> u8 {
 }
 
 // The same as `error`, of a call of the system that has just failed: its reason follows in the system's words.
-pub fn failure(name: &[u8], what: &[u8]) -> u8 {
+pub fn failure(name: &[u8], what: &[u8]) -> u8
+    ensures { λ r. ⌜ r ≡ 3 ⌝ }
+{
     let mut text = [0u8; ERROR_ROOM];
-    let n = put_error(&mut text, name, what);
+    let n = put_error(&mut text, name, what, b"");
     os::fail(&text[..n]);
     ERROR
 }
 
-fn put_error(text: &mut [u8], name: &[u8], what: &[u8]) -> usize
+// `error: NAME: WHAT`, and what follows it.
+fn put_error(text: &mut [u8], name: &[u8], what: &[u8], end: &[u8]) -> usize
     ensures { λ r. ⌜ Counts r (now (text .exit)) ⌝ }
 {
     let at_name = put_text(text, 0, b"error: ");
     let behind_name = put_text(text, at_name, name);
     let at_what = put_text(text, behind_name, b": ");
-    put_text(text, at_what, what)
+    let behind_what = put_text(text, at_what, what);
+    put_text(text, behind_what, end)
 }

@@ -1,3 +1,5 @@
--- Laws of a line's name, and of what a command on a file comes to.
+-- Laws of a line's name, of exit statuses, and of what a command on a file comes to.
 pub mod Named
+pub mod Statuses
 mod Ending
+mod Files

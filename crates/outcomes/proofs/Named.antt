@@ -1,8 +1,8 @@
 -- Laws of the name in a line: a line without a command is passed over (`no-command`), a command that may not change the chart leaves it
 -- (`only-reads`), and `build` may change it (`builds`). The rest is what the functions of `names` find: by the first field (`no-field`,
 -- `a-field`), and by the names that a match does not tell (`leaves`, `some-name`).
-use mathlib.Core.Path.{_≡_, refl, sym, ap, _∙_}
-use mathlib.Core.Bool.{Bool, true, false, not}
+use mathlib.Core.Path.{_≡_, refl, ap}
+use mathlib.Core.Bool.{true, false, not}
 use mathlib.Core.List.{List, [], _∷_}
 use Prim.Native.Nat.{ℕ, zero, suc, _<_, _≤_}
 use native.Mathlib.Omega.{arith}
@@ -11,18 +11,17 @@ use lib.ListN.{length, getD}
 use lib.Dec.{eqb, leb}
 use denote.Enum.Declared.{tagOf}
 use types.Run.{OneOf, miss}
-use Rattle.guide.specs.Choice.{choose}
-use Rattle.guide.proofs.Booleans.{by-test}
 use Rattle.guide.proofs.Choice.{choose-ind, require-ind}
 use Rattle.chart.specs.declared.Chart.{Chart}
 use Rattle.parsing.specs.Bytes.{sameBytes}
 use Rattle.parsing.specs.Fields.{fieldsOf, IsFirstField}
 use Rattle.parsing.proofs.Tests.{same-equal}
 use Rattle.replies.specs.Ascii.{ascii}
+use Rattle.replies.specs.Faults.{lineTooLong}
 use Rattle.commands.specs.declared.names.Name.{Name}
 use Rattle.commands.specs.declared.names.Name.the-variants as name
 use Rattle.commands.proofs.names.Name.{the-type}
-use Rattle.commands.specs.Command.{Line, passedOver, faulty, asked, lineMost, isComment, firstField, nameIn, faultFor, commandFor}
+use Rattle.commands.specs.Command.{Line, passedOver, faulty, lineMost, isComment, firstField, nameIn, faultFor, commandFor}
 use Rattle.commands.specs.Command.{unlessFaulty, namedLine, lineOf, lineIn, isBuild}
 use Rattle.commands.specs.Reply.{chartAfterCommand, chartAfterLine}
 use Rattle.commands.proofs.Fields.{none-found, one-found, comment-found}
@@ -72,7 +71,7 @@ fields-read (first ∷ fields) c e =
 pub only-reads : (text : List ℕ) → mayChange text ≡ false → (c : Chart) → chartAfterLine c (lineIn text) ≡ c
 unfolding mayChange nameOf lineIn
 only-reads text e c =
-    require-ind (λ line. chartAfterLine c line ≡ c) (leb (length text) lineMost) (faulty 8) (lineOf (fieldsOf text))
+    require-ind (λ line. chartAfterLine c line ≡ c) (leb (length text) lineMost) (faulty lineTooLong) (lineOf (fieldsOf text))
     (λ _. fields-read (fieldsOf text) c e)
     (λ _. refl)
 

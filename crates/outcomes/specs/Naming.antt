@@ -11,7 +11,7 @@ abbrev pub isCommand : List (List ℕ) → Bool
 isCommand [] = false
 isCommand (first ∷ fields) = not (isComment first)
 
--- the line is not passed over
+-- the line is not passed over (`no-command` in `proofs/Named`)
 unfoldable pub hasCommand : List ℕ → Bool
 hasCommand line = isCommand (fieldsOf line)
 
@@ -19,7 +19,7 @@ hasCommand line = isCommand (fieldsOf line)
 unfoldable pub nameOf : List ℕ → Name
 nameOf line = nameIn (firstField (fieldsOf line))
 
--- the commands that may change the chart; the others leave it (`proofs/Reading`)
+-- the commands that may change the chart; the others leave it (`only-reads` in `proofs/Named`)
 abbrev pub changes : Name → Bool
 changes name.Build = true
 changes name.Post = true

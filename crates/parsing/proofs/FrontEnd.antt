@@ -1,16 +1,19 @@
 -- Laws of the front and the end of a text: a text that is too short (`begins-short`, `ends-short`), a text that begins so has the bytes
--- (`begins-length`), the end of two texts joined (`ends-joined`); and of a line without a mark (`with-mark`, `no-mark`, `without-mark-length`).
+-- (`begins-length`), the end of two texts joined (`ends-joined`, `ends-behind`, `ends-unlike`); and of a line without a mark (`with-mark`,
+-- `no-mark`, `without-mark-length`).
 use mathlib.Core.Path.{_≡_, refl, sym, ap, _∙_}
-use mathlib.Core.Bool.{true, false}
+use mathlib.Core.Bool.{true, false, false≢true}
 use mathlib.Core.List.{List, _++_}
 use Prim.Native.Nat.{ℕ, _+_, _-_, _<_, _≤_}
 use native.Mathlib.Omega.{arith}
 use lib.ListN.{length, take, drop, length-append, length-take, length-drop}
-use lib.Seq.{drop-append-seam}
+use lib.Seq.{drop-append-le, drop-append-add, drop-append-seam}
+use lib.Dec.{ltb}
+use borrow.Author.Tests.{ltb-true, ltb-false}
 use Rattle.guide.proofs.Booleans.{by-test}
 use Rattle.parsing.specs.Bytes.{sameBytes}
 use Rattle.parsing.specs.Text.{begins, ends, mark, withoutMark, IsWithoutMark}
-use Rattle.parsing.proofs.Tests.{same-lengths, same-equal}
+use Rattle.parsing.proofs.Tests.{same-lengths, same-equal, same-itself}
 
 pub begins-short : (text front : List ℕ) → length text < length front → begins text front ≡ false
 unfolding begins
@@ -30,6 +33,31 @@ unfolding ends
 ends-joined x y end e =
     let from : length (x ++ y) - length end ≡ length x = omega (arith, length-append x y) in
     rw from (ap (λ (l : List ℕ). sameBytes l end) (drop-append-seam x y))
+
+-- .. and with no more bytes than y has: y's end is the whole's
+pub ends-behind : (x y end : List ℕ) → length end ≤ length y → ends (x ++ y) end ≡ ends y end
+unfolding ends
+ends-behind x y end h =
+    let from : length (x ++ y) - length end ≡ length x + (length y - length end) = omega (arith, length-append x y) in
+    rw from (ap (λ (l : List ℕ). sameBytes l end) (drop-append-add x y (length y - length end)))
+
+-- .. and with bytes, no fewer than y has, that do not end in y
+pub ends-unlike : (x y end : List ℕ) → length y ≤ length end → ends end y ≡ false → ends (x ++ y) end ≡ false
+unfolding ends
+ends-unlike x y end h e =
+    let text = x ++ y in
+    let n = length text - length end in
+    let count = length-append x y in
+    by-test (ltb (length text) (length end))
+    (λ t. ends-short text end (ltb-true (length text) (length end) t))
+    (λ t.
+    let enough = ltb-false (length text) (length end) t in
+    by-test (ends text end)
+    (λ so.
+    let is : drop n x ++ y ≡ end = sym (drop-append-le n x y (omega arith)) ∙ same-equal (drop n text) end so in
+    let like : ends end y ≡ true = rw (← is) (ends-joined (drop n x) y y refl ∙ same-itself y) in
+    absurd (false≢true (sym e ∙ like)))
+    (λ not-so. not-so))
 
 -- ---- a line without a mark
 

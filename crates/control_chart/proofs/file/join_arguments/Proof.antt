@@ -9,10 +9,10 @@ use Rattle.control_chart.proofs.file.join_arguments.Statement.{statemen
 use Rattle.control_chart.proofs.file.join_arguments.Tie as tie
 
 abbrev Inv-loop : tie.InvT-loop
-Inv-loop count line₀ at₀ i₀ line at i = (at ≤ length line) × (length line ≡ length line₀)
+Inv-loop first count line₀ at₀ i₀ line at i = (at ≤ length line) × (length line ≡ length line₀)
 
 abbrev μ-loop : tie.MeasureT-loop
-μ-loop count line₀ at₀ i₀ line at i = count - i
+μ-loop first count line₀ at₀ i₀ line at i = count - i
 
 loop-holds : tie.Need-loop-holds Inv-loop μ-loop
 loop-holds c = (omega arith, refl)

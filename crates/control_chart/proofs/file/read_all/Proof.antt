@@ -1,55 +1,94 @@
 -- `control_chart::file::read_all` meets its contract.
+use mathlib.Core.Path.{_≡_, refl}
+use Prim.Native.Nat.{_-_, _≤_, zero-le}
 use native.Mathlib.Omega.{arith}
 use borrow.Author.Needs.{needs}
+use lib.ListN.{length}
 use Rattle.control_chart.proofs.Places.{counts}
 use Rattle.control_chart.proofs.file.read_all.Statement.{statement}
 use Rattle.control_chart.proofs.file.read_all.Tie as tie
 
-read-requires : tie.Need-read-requires
+abbrev Inv-loop : tie.InvT-loop
+Inv-loop fd bytes₀ len₀ bytes len = (len ≤ length bytes) × (length bytes ≡ length bytes₀)
+
+abbrev μ-loop : tie.MeasureT-loop
+μ-loop fd bytes₀ len₀ bytes len = length bytes₀ - len
+
+loop-holds : tie.Need-loop-holds Inv-loop μ-loop
+loop-holds c = (omega arith, refl)
+
+sub-read : tie.Need-sub-read Inv-loop μ-loop
+sub-read c = omega arith
+
+part-read-start : tie.Need-part-read-start Inv-loop μ-loop
+part-read-start c = omega arith
+
+part-read-end : tie.Need-part-read-end Inv-loop μ-loop
+part-read-end c = omega arith
+
+read-requires : tie.Need-read-requires Inv-loop μ-loop
 read-requires c κs = search needs
 
-same-length : tie.Need-same-length
+same-length : tie.Need-same-length Inv-loop μ-loop
 same-length c = search needs
 
-returns : tie.Need-returns
-returns c = search needs
+returns : tie.Need-returns Inv-loop μ-loop
+returns c = (zero-le, refl)
 
-count-requires : tie.Need-count-requires
+sub-count : tie.Need-sub-count Inv-loop μ-loop
+sub-count c = omega arith
+
+part-count-start : tie.Need-part-count-start Inv-loop μ-loop
+part-count-start c = omega arith
+
+part-count-end : tie.Need-part-count-end Inv-loop μ-loop
+part-count-end c = omega arith
+
+count-requires : tie.Need-count-requires Inv-loop μ-loop
 count-requires c κs = search needs
 
-sub-read-full : tie.Need-sub-read-full
-sub-read-full c = search needs
-
-part-read-full-start : tie.Need-part-read-full-start
-part-read-full-start c = search needs
-
-part-read-full-end : tie.Need-part-read-full-end
-part-read-full-end c = search needs
-
-read-full-requires : tie.Need-read-full-requires
-read-full-requires c κs = search needs
-
-add-t12 : tie.Need-add-t12
-add-t12 c = search needs
-
-same-length-2 : tie.Need-same-length-2
+same-length-2 : tie.Need-same-length-2 Inv-loop μ-loop
 same-length-2 c = search needs
 
-returns-2 : tie.Need-returns-2
-returns-2 c = counts _ _ (search needs)
+returns-2 : tie.Need-returns-2 Inv-loop μ-loop
+returns-2 c = counts _ _ (omega arith)
+
+add-len : tie.Need-add-len Inv-loop μ-loop
+add-len c = omega arith
+
+loop-less : tie.Need-loop-less Inv-loop μ-loop
+loop-less c = omega arith
+
+loop-again : tie.Need-loop-again Inv-loop μ-loop
+loop-again c = (omega arith, search needs)
+
+same-length-3 : tie.Need-same-length-3 Inv-loop μ-loop
+same-length-3 c = search needs
+
+returns-3 : tie.Need-returns-3 Inv-loop μ-loop
+returns-3 c = counts _ _ (omega arith)
 
 pub read-all-spec : {M : Type 1} → statement M
 read-all-spec =
     tie.close
     (tie.spec
+    Inv-loop
+    μ-loop
+    loop-holds
+    sub-read
+    part-read-start
+    part-read-end
     read-requires
     same-length
     returns
+    sub-count
+    part-count-start
+    part-count-end
     count-requires
-    sub-read-full
-    part-read-full-start
-    part-read-full-end
-    read-full-requires
-    add-t12
     same-length-2
-    returns-2)
+    returns-2
+    add-len
+    loop-less
+    loop-again
+    same-length-3
+    returns-3)

@@ -1,0 +1,125 @@
+-- What a command on a file comes to keeps every chart: the form to keep is that of the chart after the command, and reading it gives that chart
+-- (`kept-form`, `kept-read`); where the file is to stay, it holds that form already (`nothing-lost`); and a command that may not change the
+-- chart never asks for a new form, so it needs no lock (`only-read`).
+use mathlib.Core.Path.{_≡_, refl, sym, ap, _∙_}
+use mathlib.Core.Bool.{Bool, true, false, false≢true}
+use mathlib.Core.List.{List, []}
+use Prim.Native.Nat.{ℕ}
+use native.Mathlib.Omega.{arith}
+use lib.ListN.{length}
+use lib.Dec.{leb}
+use Rattle.guide.specs.Choice.{require, choose}
+use Rattle.guide.specs.StoredForm.{storedForm}
+use Rattle.guide.specs.State.{State}
+use Rattle.guide.specs.Reading.{ReadingAnswer, taken, refused, reading}
+use Rattle.guide.proofs.Booleans.{by-test}
+use Rattle.guide.proofs.Bytes.{AreBytes}
+use Rattle.guide.proofs.Reading.{read-stored, stored-read}
+use Rattle.chart.specs.declared.Chart.{Chart}
+use Rattle.chart.specs.Chart.{stateOf, chartOf}
+use Rattle.chart.specs.Soundness.{soundChart}
+use Rattle.chart.proofs.SoundCharts.{sound-chart-facts}
+use Rattle.chart.proofs.State.{state-of-chart}
+use Rattle.parsing.specs.Bytes.{sameBytes}
+use Rattle.parsing.proofs.Tests.{same-equal, same-itself}
+use Rattle.commands.specs.Command.{lineIn, isBuild}
+use Rattle.commands.specs.Reply.{chartAfterLine}
+use Rattle.outcomes.specs.declared.Outcome.{Outcome}
+use Rattle.outcomes.specs.declared.Outcome.the-variants as outcome
+use Rattle.outcomes.specs.Naming.{hasCommand, mayChange}
+use Rattle.outcomes.specs.OnFile.{Held, noFile, bytes, Start, onChart, fault, startRead, startFrom, startOf, ofForm, Ending, keeping, ending}
+use Rattle.outcomes.proofs.Named.{only-reads, builds}
+
+-- two outcomes are told apart
+abbrev number : Outcome → ℕ
+number outcome.Answered = 0
+number outcome.Changed = 1
+number outcome.Fault = 2
+number outcome.NoRoom = 3
+
+-- ---- the chart after a command, and the file's bytes
+
+module _ (after : Chart) (held : List ℕ) (room : ℕ) (text : List ℕ) where
+  -- the three cases of keeping a chart
+  by-cases : (P : Ending → Type 0)
+      → (soundChart after ≡ false → P (record { outcome = outcome.Answered; form = []; text = text }))
+      → (soundChart after ≡ true → P (record { outcome = outcome.NoRoom; form = []; text = text }))
+      → (soundChart after ≡ true → P (record { outcome = ofForm held (storedForm (stateOf after)); form = storedForm (stateOf after); text = text }))
+      → P (keeping after held room text)
+  by-cases P unsound short kept =
+      by-test (soundChart after)
+      (λ t. by-test (leb (length (storedForm (stateOf after))) room) (λ f. rw (t, f) (kept t)) (λ f. rw (t, f) (short t)))
+      (λ t. rw t (unsound t))
+
+  -- a changed file gets the form of a sound chart
+  pub kept-form : keeping after held room text .outcome ≡ outcome.Changed
+      → (soundChart after ≡ true) × (keeping after held room text .form ≡ storedForm (stateOf after))
+  kept-form =
+      by-cases (λ (e : Ending). e .outcome ≡ outcome.Changed → (soundChart after ≡ true) × (e .form ≡ storedForm (stateOf after)))
+      (λ t e. let z : _≡_ {A = ℕ} 0 1 = ap number e in absurd (omega arith))
+      (λ t e. let z : _≡_ {A = ℕ} 3 1 = ap number e in absurd (omega arith))
+      (λ t e. (t, refl))
+
+  -- .. which is read as that chart
+  pub kept-read : keeping after held room text .outcome ≡ outcome.Changed
+      → reading (keeping after held room text .form) ≡ taken (stateOf after)
+  kept-read e =
+      let kept = kept-form e in
+      ap reading (kept .1) ∙ read-stored (stateOf after) (sound-chart-facts after (kept .0) .state)
+
+  same-form : ofForm held (storedForm (stateOf after)) ≡ outcome.Answered → held ≡ storedForm (stateOf after)
+  unfolding ofForm
+  same-form =
+      by-test (sameBytes held (storedForm (stateOf after)))
+      (λ t e. same-equal held (storedForm (stateOf after)) t)
+      (λ t e. let z : _≡_ {A = ℕ} 1 0 = ap number (rw t at e) in absurd (omega arith))
+
+  -- where the file is to stay, a sound chart's form is what it holds
+  pub nothing-lost : keeping after held room text .outcome ≡ outcome.Answered → soundChart after ≡ true → held ≡ storedForm (stateOf after)
+  nothing-lost =
+      by-cases (λ (e : Ending). e .outcome ≡ outcome.Answered → soundChart after ≡ true → held ≡ storedForm (stateOf after))
+      (λ t e sound. absurd (false≢true (sym t ∙ sound)))
+      (λ t e sound. let z : _≡_ {A = ℕ} 3 0 = ap number e in absurd (omega arith))
+      (λ t e sound. same-form e)
+
+-- ---- a command that may not change the chart
+
+-- what is held are bytes: each is below 256
+abbrev pub HoldsBytes : Held → Type 0
+HoldsBytes noFile = Unit {0}
+HoldsBytes (bytes held) = AreBytes held
+
+-- the chart that was read is kept as the bytes that it was read from
+read-stays : (held : List ℕ) → AreBytes held → (s : State) → reading held ≡ taken s → (room : ℕ) (text : List ℕ)
+    → keeping (chartOf s) held room text .outcome ≡ outcome.Changed → ⊥
+unfolding ofForm
+read-stays held are s e room text =
+    let same : held ≡ storedForm (stateOf (chartOf s)) = sym (ap storedForm (state-of-chart s) ∙ stored-read held s are e) in
+    by-cases (chartOf s) held room text (λ (k : Ending). k .outcome ≡ outcome.Changed → ⊥)
+    (λ t changed. let z : _≡_ {A = ℕ} 0 1 = ap number changed in omega arith)
+    (λ t changed. let z : _≡_ {A = ℕ} 3 1 = ap number changed in omega arith)
+    (λ t changed.
+    let z : _≡_ {A = ℕ} 0 1 = ap number (rw (← same, same-itself held) at changed) in omega arith)
+
+module _ (line : List ℕ) (leaves : mayChange line ≡ false) (room : ℕ) where
+  by-reading : (held : List ℕ) → AreBytes held → (a : ReadingAnswer) → reading held ≡ a
+      → ending (startRead held a) line room .outcome ≡ outcome.Changed → ⊥
+  by-reading held are (taken s) e changed =
+      read-stays held are s e room _ (rw (only-reads line leaves) at changed)
+  by-reading held are (refused n) e changed = let z : _≡_ {A = ℕ} 2 1 = ap number changed in omega arith
+
+  -- where there is no file, it is not `build`
+  started : (held : Held) → HoldsBytes held → ending (startFrom held line) line room .outcome ≡ outcome.Changed → ⊥
+  started noFile are =
+      by-test (isBuild line)
+      (λ t changed. absurd (false≢true (sym leaves ∙ builds line t)))
+      (λ t changed. let z : _≡_ {A = ℕ} 2 1 = ap number (rw t at changed) in omega arith)
+  started (bytes held) are = by-reading held are (reading held) refl
+
+  -- whether there is a file or not
+  pub only-read : (held : Held) → HoldsBytes held → ending (startOf held line) line room .outcome ≡ outcome.Changed → ⊥
+  unfolding startOf
+  only-read held are =
+      by-test (hasCommand line)
+      (λ t changed. started held are (rw t at changed))
+      (λ t changed. let z : _≡_ {A = ℕ} 2 1 = ap number (rw t at changed) in omega arith)
