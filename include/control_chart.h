@@ -56,6 +56,9 @@
 #include <stddef.h>
 #include <stdint.h>
 
+/* The version, as `control_chart --version` says it. */
+#define CONTROL_CHART_VERSION "1.0.0"
+
 #ifdef __cplusplus
 extern "C" {
 #endif

@@ -3,7 +3,7 @@
 pub mod Fields
 mod FirstFault
 mod WordsPut
-mod Fronts
+pub mod Fronts
 mod NamesTried
 mod Lines
 mod Replying

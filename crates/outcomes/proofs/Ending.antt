@@ -6,19 +6,20 @@ use mathlib.Core.Bool.{Bool, true, false}
 use mathlib.Core.List.{List, [], _++_}
 use Prim.Native.Nat.{ℕ, _≤_}
 use native.Mathlib.Omega.{arith}
-use lib.ListN.{length, take, drop, length-append}
+use lib.ListN.{length, take, drop}
 use lib.Seq.{length-take-le}
-use lib.Dec.{leb}
+use lib.Dec.{eqb, leb, lit≤}
 use Rattle.guide.specs.Choice.{require}
 use Rattle.guide.specs.StoredForm.{storedForm, hasRoom, wrote, writing, bufferAfter}
 use Rattle.guide.specs.StoredForm as form
+use Rattle.guide.proofs.Choice.{choose-ind}
 use Rattle.guide.specs.Reading.{taken, refused, reading}
 use Rattle.chart.specs.declared.Chart.{Chart}
 use Rattle.chart.specs.Chart.{stateOf, chartOf}
 use Rattle.chart.specs.Soundness.{soundChart}
 use Rattle.parsing.specs.Bytes.{PutInFront}
 use Rattle.printing.specs.Output.{Puts}
-use Rattle.printing.proofs.Putting.{puts-within}
+use Rattle.printing.proofs.Putting.{puts-within, puts-front}
 use Rattle.store.specs.declared.WriteAnswer.the-variants.{Done, Refused}
 use Rattle.store.specs.declared.ReadAnswer.the-variants as read
 use Rattle.store.specs.declared.ReadChart.{ReadChart}
@@ -28,7 +29,8 @@ use Rattle.store.proofs.Returning.{written-facts, written-after, written-form}
 use Rattle.commands.specs.declared.Answered.{Answered}
 use Rattle.commands.specs.Command.{lineIn}
 use Rattle.commands.specs.Reply.{chartAfterLine, answerToLine}
-use Rattle.commands.specs.Answers.{Answers}
+use Rattle.commands.specs.Answers.{Answers, AnswersInFull}
+use Rattle.commands.proofs.Fronts.{front-fits, front-counted}
 use Rattle.outcomes.specs.declared.Outcome.{Outcome}
 use Rattle.outcomes.specs.declared.Outcome.the-variants as outcome
 use Rattle.outcomes.specs.declared.OnFile.{OnFile}
@@ -39,11 +41,31 @@ use Rattle.outcomes.specs.OnFile.{Held, onChart, fault, noCommand, start
 none-put : (buffer : List ℕ) → PutInFront [] buffer buffer 0
 none-put buffer = record { buffer = refl; counted = refl }
 
+-- a text for which there is room is put whole
+in-front : {before after : List ℕ} {size : ℕ} (text : List ℕ) → length text ≤ length before → Puts before 0 text after size
+    → PutInFront text before after size
+in-front {before} text room puts =
+    let front = puts-front text room puts in
+    record { buffer = front .bytes ∙ ap (λ (n : ℕ). text ++ drop n before) (sym (front .place)); counted = front .place }
+
+fault-length : (n : ℕ) → length (faultText n) ≤ 200
+unfolding faultText
+fault-length n =
+    let short : List ℕ → Type 0 = λ text. length text ≤ 200 in
+    choose-ind short (eqb n 1) _ _ (λ _. lit≤ tt)
+    (λ _. choose-ind short (eqb n 2) _ _ (λ _. lit≤ tt)
+    (λ _. choose-ind short (eqb n 13) _ _ (λ _. lit≤ tt) (λ _. lit≤ tt)))
+
 pub ends-in-fault : (n : ℕ) {buffer out out′ : List ℕ} {r : OnFile}
     → (r .outcome ≡ outcome.Fault) × ((r .form ≡ 0) × Puts out 0 (faultText n) out′ (r .size))
     → Ends (record { outcome = outcome.Fault; form = []; text = faultText n }) buffer buffer out out′ r
 ends-in-fault n {buffer} told =
-    record { outcome = told .0; form = rw (told .1 .0) (none-put buffer); text = told .1 .1 }
+    record {
+      outcome = told .0;
+      form = rw (told .1 .0) (none-put buffer);
+      text = told .1 .1;
+      whole = λ room. let short = fault-length n in in-front (faultText n) (omega arith) (told .1 .1);
+    }
 
 -- ---- the chart after a command, in a buffer of `room` bytes
 
@@ -58,7 +80,7 @@ module _ (after : Chart) (held text : List ℕ) (room : ℕ) where
 
   with-room : soundChart after ≡ true → leb (length (storedForm (stateOf after))) room ≡ true
       → keeping after held room text
-        ≡ record { outcome = ofForm held (storedForm (stateOf after)); form = storedForm (stateOf after); text = text }
+      ≡ record { outcome = ofForm held (storedForm (stateOf after)); form = storedForm (stateOf after); text = text }
   with-room t fits = rw (t, fits)
 
 -- what was written
@@ -76,7 +98,11 @@ declined-by false room size n e P unsound short = unsound refl cc
 
 -- ---- a command on a chart
 
-module _ (c : Chart) (held line : List ℕ) {out out′ : List ℕ} (a : Answered) (answers : Answers c (lineIn line) out out′ a) where
+module _ (c : Chart) (held line : List ℕ) {out out′ : List ℕ} (a : Answered)
+    (all : Answers c (lineIn line) out out′ a × AnswersInFull c (lineIn line) out out′ a) where
+  abbrev answers : Answers c (lineIn line) out out′ a
+  answers = all .0
+
   -- the ending, by the chart that was written
   by-chart : (room : ℕ) → ending (onChart c held) line room ≡ keeping (a .chart) held room (answerToLine c (lineIn line))
   by-chart room = rw (← answers .chart)
@@ -93,6 +119,7 @@ module _ (c : Chart) (held line : List ℕ) {out out′ : List ℕ} (a : Answere
         outcome = decided ∙ ap (ofForm held) (written-form (a .chart) before after n w);
         form = put-in-front (a .chart) before after n w;
         text = answers .text;
+        whole = all .1;
       })
 
   pub ends-declined : {before after : List ℕ} (n : ℕ) (o : Outcome) → Writes (a .chart) before after (Refused n) → o ≡ notWritten n
@@ -104,11 +131,11 @@ module _ (c : Chart) (held line : List ℕ) {out out′ : List ℕ} (a : Answere
       (λ unsound e.
       let same : after ≡ before = rw unsound at (w .buffer) in
       rw (by-chart (length before) ∙ not-sound (a .chart) held text (length before) unsound, same)
-      (record { outcome = decided ∙ rw e; form = none-put before; text = answers .text }))
+      (record { outcome = decided ∙ rw e; form = none-put before; text = answers .text; whole = all .1 }))
       (λ sound short e.
       let same : after ≡ before = rw (sound, short) at (w .buffer) in
       rw (by-chart (length before) ∙ no-room (a .chart) held text (length before) sound short, same)
-      (record { outcome = decided ∙ rw e; form = none-put before; text = answers .text }))
+      (record { outcome = decided ∙ rw e; form = none-put before; text = answers .text; whole = all .1 }))
 
 -- ---- what a file's bytes start from
 
@@ -138,13 +165,8 @@ module _ (held : Held) (line : List ℕ) {answer : Bool} (tested : answer ≡ ha
 
 -- ---- how many bytes
 
-counted : (n : ℕ) (buffer : List ℕ) → n ≤ length buffer → Counts n buffer
-counted n buffer h = (h, sym (length-take-le n buffer h))
-
 pub and-counted : {e : Ending} {before after out out′ : List ℕ} {r : OnFile} → Ends e before after out out′ r
     → Ends e before after out out′ r × (Counts (r .form) after × Counts (r .size) out′)
-and-counted {e} {before} {after} {out} {out′} {r} ends =
-    let put = ends .form in
-    let form : r .form ≤ length after =
-    omega (arith, put .counted, ap length (put .buffer), length-append (e .form) (drop (r .form) before)) in
-    (ends, (counted (r .form) after form, counted (r .size) out′ (puts-within (omega arith) (ends .text))))
+and-counted {out′ = out′} {r} ends =
+    let text : r .size ≤ length out′ = puts-within (omega arith) (ends .text) in
+    (ends, ((front-fits (ends .form), front-counted (ends .form)), (text, sym (length-take-le (r .size) out′ text))))

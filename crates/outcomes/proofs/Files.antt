@@ -1,20 +1,21 @@
 -- What a command on a file comes to keeps every chart: the form to keep is that of the chart after the command, and reading it gives that chart
 -- (`kept-form`, `kept-read`); where the file is to stay, it holds that form already (`nothing-lost`); and a command that may not change the
--- chart never asks for a new form, so it needs no lock (`only-read`).
+-- chart never asks for a new form, so it needs no lock (`only-read`). A buffer of 814 bytes has room for every form (`room-enough`).
 use mathlib.Core.Path.{_≡_, refl, sym, ap, _∙_}
 use mathlib.Core.Bool.{Bool, true, false, false≢true}
 use mathlib.Core.List.{List, []}
-use Prim.Native.Nat.{ℕ}
+use Prim.Native.Nat.{ℕ, _≤_}
 use native.Mathlib.Omega.{arith}
+use borrow.Author.Tests.{le-leb}
 use lib.ListN.{length}
 use lib.Dec.{leb}
-use Rattle.guide.specs.Choice.{require, choose}
 use Rattle.guide.specs.StoredForm.{storedForm}
 use Rattle.guide.specs.State.{State}
 use Rattle.guide.specs.Reading.{ReadingAnswer, taken, refused, reading}
 use Rattle.guide.proofs.Booleans.{by-test}
 use Rattle.guide.proofs.Bytes.{AreBytes}
-use Rattle.guide.proofs.Reading.{read-stored, stored-read}
+use Rattle.guide.proofs.Soundness.{sound-facts}
+use Rattle.guide.proofs.Reading.{length-form, read-stored, stored-read}
 use Rattle.chart.specs.declared.Chart.{Chart}
 use Rattle.chart.specs.Chart.{stateOf, chartOf}
 use Rattle.chart.specs.Soundness.{soundChart}
@@ -27,7 +28,7 @@ use Rattle.commands.specs.Reply.{chartAfterLine}
 use Rattle.outcomes.specs.declared.Outcome.{Outcome}
 use Rattle.outcomes.specs.declared.Outcome.the-variants as outcome
 use Rattle.outcomes.specs.Naming.{hasCommand, mayChange}
-use Rattle.outcomes.specs.OnFile.{Held, noFile, bytes, Start, onChart, fault, startRead, startFrom, startOf, ofForm, Ending, keeping, ending}
+use Rattle.outcomes.specs.OnFile.{Held, noFile, bytes, Start, onChart, fault, startRead, startFrom, startOf, ofForm, Ending, keeping, ending, formMost}
 use Rattle.outcomes.proofs.Named.{only-reads, builds}
 
 -- two outcomes are told apart
@@ -81,6 +82,20 @@ module _ (after : Chart) (held : List ℕ) (room : ℕ) (text : List ℕ) where
       (λ t e sound. absurd (false≢true (sym t ∙ sound)))
       (λ t e sound. let z : _≡_ {A = ℕ} 3 0 = ap number e in absurd (omega arith))
       (λ t e sound. same-form e)
+
+  -- a buffer of 814 bytes has room for every form
+  pub room-enough : formMost ≤ room → keeping after held room text .outcome ≡ outcome.NoRoom → ⊥
+  unfolding ofForm
+  room-enough enough =
+      by-test (soundChart after)
+      (λ t.
+      let s = stateOf after in
+      let facts = sound-facts s (sound-chart-facts after t .state) in
+      let fits = le-leb (length (storedForm s)) room (omega (arith, length-form s, facts .base-most, facts .series-most)) in
+      by-test (sameBytes held (storedForm s))
+      (λ same e. let z : _≡_ {A = ℕ} 0 3 = ap number (rw (t, fits, same) at e) in omega arith)
+      (λ same e. let z : _≡_ {A = ℕ} 1 3 = ap number (rw (t, fits, same) at e) in omega arith))
+      (λ t e. let z : _≡_ {A = ℕ} 0 3 = ap number (rw t at e) in omega arith)
 
 -- ---- a command that may not change the chart
 

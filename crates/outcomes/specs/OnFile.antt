@@ -17,7 +17,7 @@ use Rattle.parsing.specs.Bytes.{sameBytes, PutInFront}
 use Rattle.printing.specs.Output.{Puts}
 use Rattle.replies.specs.Ascii.{ascii}
 use Rattle.commands.specs.Command.{lineIn, isBuild}
-use Rattle.commands.specs.Reply.{chartAfterLine, answerToLine}
+use Rattle.commands.specs.Reply.{chartAfterLine, answerToLine, answerMost}
 use Rattle.outcomes.specs.declared.Outcome.{Outcome}
 use Rattle.outcomes.specs.declared.Outcome.the-variants as outcome
 use Rattle.outcomes.specs.declared.OnFile.{OnFile}
@@ -61,10 +61,6 @@ startOf held line = require (hasCommand line) (fault noCommand) (startFrom held 
 
 -- ---- what it comes to
 
--- the stored form of a chart; of one that is not sound, as that of zeros, nothing
-unfoldable pub keptOf : Chart → List ℕ
-keptOf c = choose (soundChart c) (storedForm (stateOf c)) []
-
 -- the file is changed only where the form is another than it holds
 unfoldable pub ofForm : List ℕ → List ℕ → Outcome
 ofForm held form = choose (sameBytes held form) outcome.Answered outcome.Changed
@@ -88,7 +84,8 @@ pub record Ending : Type 0 where
   pub form : List ℕ
   pub text : List ℕ
 
--- the chart after the command, kept in a buffer of so many bytes: a sound chart's form where it has room
+-- the chart after the command, kept in a buffer of so many bytes: the stored form of a sound chart where there is room for it, and nothing of a
+-- chart that is not sound, as that of zeros, which a refused build leaves
 abbrev pub keeping : Chart → List ℕ → ℕ → List ℕ → Ending
 keeping after held room text =
     let form = storedForm (stateOf after) in
@@ -105,6 +102,12 @@ pub record Ends (e : Ending) (before after out out′ : List ℕ) (r : OnFile) :
   pub outcome : r .outcome ≡ e .outcome
   pub form : PutInFront (e .form) before after (r .form)
   pub text : Puts out 0 (e .text) out′ (r .size)
+  -- a buffer that has room for every text holds all of it
+  pub whole : answerMost ≤ length out → PutInFront (e .text) out out′ (r .size)
+
+-- room for every stored form
+abbrev pub formMost : ℕ
+formMost = 814
 
 -- n counts bytes at the front of a buffer, in the words of the kit's `io`, by which such bytes are lent without a proof
 abbrev pub Counts : ℕ → List ℕ → Type 0

@@ -45,7 +45,7 @@ returns c =
     let write = known .before .before .before .before in
     let answer = write .before .before .before .before .before in
     let start = answer .before .before .before .before .before .before in
-    ends-written (start .args .chart) _ _ (answer .answer-line .result) (answer .answer-line .ensures .0) _ _
+    ends-written (start .args .chart) _ _ (answer .answer-line .result) (answer .answer-line .ensures) _ _
     (rw (known .written .given .1) at (write .write .ensures)) (c .of-form .ensures)
 
 same-length-3 : tie.Need-same-length-3
@@ -60,7 +60,7 @@ returns-2 c =
     let write = known .before .before .before .before in
     let answer = write .before .before .before .before .before in
     let start = answer .before .before .before .before .before .before in
-    ends-declined (start .args .chart) _ _ (answer .answer-line .result) (answer .answer-line .ensures .0) _ _
+    ends-declined (start .args .chart) _ _ (answer .answer-line .result) (answer .answer-line .ensures) _ _
     (rw (known .written2 .given .1) at (write .write .ensures)) (c .not-written .ensures)
 
 pub on-chart-spec : {M : Type 1} → statement M
