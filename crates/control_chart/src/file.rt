@@ -1,10 +1,12 @@
 // One command on the chart that a file holds. What it comes to is `outcomes::on_file`'s; here bytes are moved, in this order where the command
 // may change the chart: the lock is made, the file is read, the command is done, the lock is filled and renamed over the file, and then the
 // answer is said.
+use crate::arguments::join_arguments;
 use crate::input::LINE_ROOM;
 use crate::lock::put_lock_name;
 use crate::lock::release;
 use crate::lock::take_lock;
+use crate::read::read_file;
 use crate::replace::replace_file;
 use crate::replace::sync_folder;
 use crate::say::ERROR;
@@ -18,36 +20,10 @@ use outcomes::names::is_name;
 use outcomes::names::may_change;
 use outcomes::on_file;
 use outcomes::status::exit_status;
-use printing::put_byte;
-use printing::put_text;
 use system::Permissions;
-ghost use mathlib.Core.Path.{_≡_};
-ghost use mathlib.Core.List.{[], _∷_};
-ghost use Prim.Native.Nat.{_≤_};
-ghost use lib.ListN.{length};
-ghost use lib.Dec.{eqb};
-ghost use Rattle.io.specs.Counts.{Counts};
-ghost use Rattle.guide.specs.Choice.{choose};
-ghost use Rattle.printing.specs.Output.{Puts};
-ghost use Rattle.printing.specs.Decimal.{spaceCode};
 
 // More than the longest stored form, which has 814 bytes.
 const FILE_ROOM: usize = 1024;
-
-// What reading a file gave: whether all went well, whether there is a file, how many bytes came, and its permissions. A file that is longer
-// than any stored form is read as far as the buffer goes, which is no stored form either.
-struct FileRead {
-    done: bool,
-    there: bool,
-    len: usize,
-    permissions: Permissions,
-}
-
-// What reading an open file gave.
-struct BytesRead {
-    done: bool,
-    len: usize,
-}
 
 // The command of the arguments from the first one on. Answers the exit status.
 pub fn command_on_file(path: &[u8], first: usize, count: usize) -> u8 {
@@ -209,109 +185,4 @@ fn keep(
         );
     }
     if synced { exit_status(text) } else { ERROR }
-}
-
-// ---- reading
-
-// A file that is not there is read too: as no file. Where a call fails, the file stays open, so that the reason is still the system's last.
-fn read_file(path: &[u8], held: &mut [u8]) -> FileRead
-    ensures { λ r. ⌜ Counts (r .len) (now (held .exit)) ⌝ }
-{
-    let fd = os::open_read(path);
-    if fd < 0 {
-        return no_file(os::errno() == libc::ENOENT);
-    }
-    let permissions = system::permissions_of(fd);
-    if !permissions.known {
-        return no_file(false);
-    }
-    let read = read_all(fd, held);
-    let len = read.len;
-    if !read.done {
-        return no_file(false);
-    }
-    libc::close(fd);
-    FileRead {
-        done: true,
-        there: true,
-        len,
-        permissions,
-    }
-}
-
-fn no_file(done: bool) -> FileRead
-    ensures { λ r. ⌜ r .len ≡ 0 ⌝ }
-{
-    FileRead {
-        done,
-        there: false,
-        len: 0,
-        permissions: Permissions {
-            known: false,
-            mode: 0,
-            owner: 0,
-            group: 0,
-        },
-    }
-}
-
-// Reads to the end, or until the buffer is full. A read may bring less than there is.
-fn read_all(fd: i32, bytes: &mut [u8]) -> BytesRead
-    ensures { λ r. ⌜ Counts (r .len) (now (bytes .exit)) ⌝ }
-{
-    let mut len: usize = 0;
-    while len < bytes.len() {
-        let got = libc::read(fd, &mut bytes[len..]);
-        if got < 0 {
-            return BytesRead {
-                done: false,
-                len: 0,
-            };
-        }
-        let n = io::count(got, &bytes[len..]);
-        if n == 0 {
-            return BytesRead { done: true, len };
-        }
-        len += n;
-    }
-    BytesRead { done: true, len }
-}
-
-// ---- the line
-
-// The arguments from the first one on, with a blank between two, as a line. Answers its length.
-fn join_arguments(first: usize, count: usize, line: &mut [u8]) -> usize
-    ensures { λ r. ⌜ Counts r (now (line .exit)) ⌝ }
-{
-    let mut at: usize = 0;
-    let mut i = first;
-    while i < count {
-        at = put_argument(i, line, at);
-        i += 1;
-    }
-    at
-}
-
-// An argument that is longer than a line fills the buffer, by which the line is too long.
-fn put_argument(i: usize, line: &mut [u8], at: usize) -> usize
-    requires { ⌜ at ≤ length (now line) ⌝ }
-    ensures { λ r. ⌜ r ≤ length (now (line .exit)) ⌝ }
-{
-    let mut argument = [0u8; LINE_ROOM];
-    let n = os::arg(i, &mut argument);
-    if os::errno() != 0 {
-        return line.len();
-    }
-    let next = put_blank(line, at);
-    put_text(line, next, &argument[..n])
-}
-
-// A blank between two arguments; none in front of the first.
-fn put_blank(line: &mut [u8], at: usize) -> usize
-    ensures { λ r. ⌜ Puts (now (line .entry)) at (choose (eqb at 0) [] (spaceCode ∷ [])) (now (line .exit)) r ⌝ }
-{
-    if at == 0 {
-        return 0;
-    }
-    put_byte(line, at, b' ')
 }

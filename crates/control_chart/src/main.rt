@@ -10,10 +10,12 @@
 //
 // A program in Rattle has no exit status. With `--status` in front of all, it writes its status to descriptor 3 at its end: 0, 1 (hold the
 // batch), 2 (refused) or 3 (error). The script `bin/control_chart` asks for it and ends with it.
+mod arguments;
 mod file;
 mod help;
 mod input;
 mod lock;
+mod read;
 mod replace;
 mod say;
 

@@ -1,9 +1,9 @@
--- `control_chart::file::put_blank` meets its contract.
+-- `control_chart::arguments::put_blank` meets its contract.
 use borrow.Author.Needs.{needs}
 use borrow.Author.Tests.{ne-eqb}
 use Rattle.printing.proofs.Putting.{puts-none}
-use Rattle.control_chart.proofs.file.put_blank.Statement.{statement}
-use Rattle.control_chart.proofs.file.put_blank.Tie as tie
+use Rattle.control_chart.proofs.arguments.put_blank.Statement.{statement}
+use Rattle.control_chart.proofs.arguments.put_blank.Tie as tie
 
 returns : tie.Need-returns
 returns c = rw (c .if1 .taken) (puts-none _ 0)

@@ -1,12 +1,12 @@
--- `control_chart::file::join_arguments` meets its contract.
+-- `control_chart::arguments::join_arguments` meets its contract.
 use mathlib.Core.Path.{_≡_, refl}
 use Prim.Native.Nat.{_-_, _≤_}
 use native.Mathlib.Omega.{arith}
 use borrow.Author.Needs.{needs}
 use lib.ListN.{length}
 use Rattle.control_chart.proofs.Places.{counts}
-use Rattle.control_chart.proofs.file.join_arguments.Statement.{statement}
-use Rattle.control_chart.proofs.file.join_arguments.Tie as tie
+use Rattle.control_chart.proofs.arguments.join_arguments.Statement.{statement}
+use Rattle.control_chart.proofs.arguments.join_arguments.Tie as tie
 
 abbrev Inv-loop : tie.InvT-loop
 Inv-loop first count line₀ at₀ i₀ line at i = (at ≤ length line) × (length line ≡ length line₀)

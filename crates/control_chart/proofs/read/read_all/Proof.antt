@@ -1,12 +1,12 @@
--- `control_chart::file::read_all` meets its contract.
+-- `control_chart::read::read_all` meets its contract.
 use mathlib.Core.Path.{_≡_, refl}
 use Prim.Native.Nat.{_-_, _≤_, zero-le}
 use native.Mathlib.Omega.{arith}
 use borrow.Author.Needs.{needs}
 use lib.ListN.{length}
 use Rattle.control_chart.proofs.Places.{counts}
-use Rattle.control_chart.proofs.file.read_all.Statement.{statement}
-use Rattle.control_chart.proofs.file.read_all.Tie as tie
+use Rattle.control_chart.proofs.read.read_all.Statement.{statement}
+use Rattle.control_chart.proofs.read.read_all.Tie as tie
 
 abbrev Inv-loop : tie.InvT-loop
 Inv-loop fd bytes₀ len₀ bytes len = (len ≤ length bytes) × (length bytes ≡ length bytes₀)

@@ -1,8 +1,8 @@
--- `control_chart::file::put_argument` meets its contract.
+-- `control_chart::arguments::put_argument` meets its contract.
 use borrow.Author.Needs.{needs}
 use Rattle.printing.proofs.Putting.{puts-within}
-use Rattle.control_chart.proofs.file.put_argument.Statement.{statement}
-use Rattle.control_chart.proofs.file.put_argument.Tie as tie
+use Rattle.control_chart.proofs.arguments.put_argument.Statement.{statement}
+use Rattle.control_chart.proofs.arguments.put_argument.Tie as tie
 
 slice-aggregate-arg : tie.Need-slice-aggregate-arg
 slice-aggregate-arg c = search needs

@@ -1,0 +1,49 @@
+// The arguments as a line.
+use crate::input::LINE_ROOM;
+use printing::put_byte;
+use printing::put_text;
+ghost use mathlib.Core.List.{[], _∷_};
+ghost use Prim.Native.Nat.{_≤_};
+ghost use lib.ListN.{length};
+ghost use lib.Dec.{eqb};
+ghost use Rattle.io.specs.Counts.{Counts};
+ghost use Rattle.guide.specs.Choice.{choose};
+ghost use Rattle.printing.specs.Output.{Puts};
+ghost use Rattle.printing.specs.Decimal.{spaceCode};
+
+// The arguments from the first one on, with a blank between two, as a line. Answers its length.
+pub fn join_arguments(first: usize, count: usize, line: &mut [u8]) -> usize
+    ensures { λ r. ⌜ Counts r (now (line .exit)) ⌝ }
+{
+    let mut at: usize = 0;
+    let mut i = first;
+    while i < count {
+        at = put_argument(i, line, at);
+        i += 1;
+    }
+    at
+}
+
+// An argument that is longer than a line fills the buffer, by which the line is too long.
+fn put_argument(i: usize, line: &mut [u8], at: usize) -> usize
+    requires { ⌜ at ≤ length (now line) ⌝ }
+    ensures { λ r. ⌜ r ≤ length (now (line .exit)) ⌝ }
+{
+    let mut argument = [0u8; LINE_ROOM];
+    let n = os::arg(i, &mut argument);
+    if os::errno() != 0 {
+        return line.len();
+    }
+    let next = put_blank(line, at);
+    put_text(line, next, &argument[..n])
+}
+
+// A blank between two arguments; none in front of the first.
+fn put_blank(line: &mut [u8], at: usize) -> usize
+    ensures { λ r. ⌜ Puts (now (line .entry)) at (choose (eqb at 0) [] (spaceCode ∷ [])) (now (line .exit)) r ⌝ }
+{
+    if at == 0 {
+        return 0;
+    }
+    put_byte(line, at, b' ')
+}

@@ -1,0 +1,83 @@
+// The bytes of a file.
+use system::Permissions;
+ghost use mathlib.Core.Path.{_≡_};
+ghost use Rattle.io.specs.Counts.{Counts};
+
+// What reading a file gave: whether all went well, whether there is a file, how many bytes came, and its permissions. A file that is longer
+// than any stored form is read as far as the buffer goes, which is no stored form either.
+pub struct FileRead {
+    pub done: bool,
+    pub there: bool,
+    pub len: usize,
+    pub permissions: Permissions,
+}
+
+// What reading an open file gave.
+struct BytesRead {
+    done: bool,
+    len: usize,
+}
+
+// A file that is not there is read too: as no file. Where a call fails, the file stays open, so that the reason is still the system's last.
+pub fn read_file(path: &[u8], held: &mut [u8]) -> FileRead
+    ensures { λ r. ⌜ Counts (r .len) (now (held .exit)) ⌝ }
+{
+    let fd = os::open_read(path);
+    if fd < 0 {
+        return no_file(os::errno() == libc::ENOENT);
+    }
+    let permissions = system::permissions_of(fd);
+    if !permissions.known {
+        return no_file(false);
+    }
+    let read = read_all(fd, held);
+    let len = read.len;
+    if !read.done {
+        return no_file(false);
+    }
+    libc::close(fd);
+    FileRead {
+        done: true,
+        there: true,
+        len,
+        permissions,
+    }
+}
+
+fn no_file(done: bool) -> FileRead
+    ensures { λ r. ⌜ r .len ≡ 0 ⌝ }
+{
+    FileRead {
+        done,
+        there: false,
+        len: 0,
+        permissions: Permissions {
+            known: false,
+            mode: 0,
+            owner: 0,
+            group: 0,
+        },
+    }
+}
+
+// Reads to the end, or until the buffer is full. A read may bring less than there is.
+fn read_all(fd: i32, bytes: &mut [u8]) -> BytesRead
+    ensures { λ r. ⌜ Counts (r .len) (now (bytes .exit)) ⌝ }
+{
+    let mut len: usize = 0;
+    while len < bytes.len() {
+        let got = libc::read(fd, &mut bytes[len..]);
+        if got < 0 {
+            return BytesRead {
+                done: false,
+                len: 0,
+            };
+        }
+        let n = io::count(got, &bytes[len..]);
+        if n == 0 {
+            return BytesRead { done: true, len };
+        }
+        len += n;
+    }
+    BytesRead { done: true, len }
+}
