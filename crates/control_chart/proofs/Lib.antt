@@ -1,4 +1,4 @@
--- Laws of places within buffers, of a line that is cut, of the input as it is taken, and of what is kept in a file.
+-- Laws of places within buffers, of a line that has ended and one that is cut, and of the input as it is taken.
 mod Places
 mod Cutting
 mod Taking

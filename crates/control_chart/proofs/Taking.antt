@@ -1,8 +1,8 @@
 -- The input as the program takes it: bytes up to a line feed are a part of the line (`turn`), what is held of the line follows
 -- (`held-part`, `held-end`), at the end of the input too (`held-none`, `held-last`), and one read follows the other (`more-came`,
--- `last-came`).
+-- `last-came`). After an answer that was not written only the chart is left (`held-told`, `unless-told`).
 use mathlib.Core.Path.{_≡_, refl, sym, ap, _∙_}
-use mathlib.Core.Bool.{true, false, false≢true}
+use mathlib.Core.Bool.{Bool, true, false, not, false≢true}
 use mathlib.Core.List.{List, [], _∷_, _++_, append-assoc, append-nil}
 use Prim.Native.Nat.{ℕ, suc, _+_, _-_, _<_, _≤_}
 use native.Mathlib.Omega.{arith}
@@ -16,16 +16,19 @@ use Rattle.guide.proofs.Booleans.{by-test}
 use Rattle.guide.proofs.Integers.{by-order}
 use Rattle.chart.specs.declared.Chart.{Chart}
 use Rattle.chart.specs.Chart.{zeroChart}
-use Rattle.parsing.specs.Fields.{fieldsOf}
-use Rattle.commands.specs.Command.{lineIn, lineOf}
-use Rattle.commands.specs.Reply.{chartAfterLine}
+use Rattle.parsing.specs.Bytes.{sameBytes}
+use Rattle.parsing.specs.Fields.{fieldsOf, withoutReturn}
+use Rattle.parsing.specs.Text.{begins, withoutMark}
+use Rattle.commands.specs.Command.{passedOver, lineIn, lineOf}
+use Rattle.outcomes.specs.Status.{holdsBatch, statusOf}
 use Rattle.printing.specs.Output.{Puts}
 use Rattle.printing.proofs.Putting.{puts-length, puts-cut}
 use Rattle.control_chart.specs.declared.input.Pending.{Pending}
 use Rattle.control_chart.specs.declared.input.AfterRead.{AfterRead}
-use Rattle.control_chart.specs.Input.{SoFar, soFar, atStart, chartAfterEnded, withPart, withByte, withBytes, unlessFailed, chartAtEnd}
-use Rattle.control_chart.specs.Input.{lineRoom, Holds, Follows, HasRoom, Came, IsRead}
-use Rattle.control_chart.proofs.Cutting.{cut-line, cut-last}
+use Rattle.control_chart.specs.Input.{SoFar, soFar, atStart, endedLine, afterLine, afterEnded, withPart, withByte, withBytes}
+use Rattle.control_chart.specs.Input.{unlessFailed, atEnd, lineRoom, Holds, HasRoom, IsAfter, EndsLine}
+use Rattle.control_chart.specs.Input.{Taken, Came, IsRead, IsEnd}
+use Rattle.control_chart.proofs.Cutting.{cut-line}
 
 -- ---- bytes, one read after the other
 
@@ -61,36 +64,40 @@ feed-found (x ∷ xs) h =
     (λ t. rw (feed-here x xs t) (eqb-true x 10 t))
     (λ t. rw (feed-later x xs t) (feed-found xs (omega (arith, feed-later x xs t))))
 
+-- the line goes on, and nothing else changes
+abbrev goingOn : SoFar → List ℕ → SoFar
+goingOn s line = soFar (s .chart) line (s .status)
+
 -- any other byte belongs to the line
-byte-kept : (s : SoFar) (b : ℕ) → eqb b 10 ≡ false → withByte s b ≡ soFar (s .chart) (s .line ++ (b ∷ []))
+byte-kept : (s : SoFar) (b : ℕ) → eqb b 10 ≡ false → withByte s b ≡ goingOn s (s .line ++ (b ∷ []))
 unfolding withByte withPart
 byte-kept s b t = rw t
 
 -- .. so the bytes before a line feed do
 before-feed : (s : SoFar) (xs : List ℕ) → let part = take (indexOf 10 xs) xs in withBytes s part ≡ withPart s part false
 unfolding withBytes withPart
-before-feed s [] = rw take-nil (ap (soFar (s .chart)) (sym (append-nil (s .line))))
+before-feed s [] = rw take-nil (ap (goingOn s) (sym (append-nil (s .line))))
 before-feed s (x ∷ xs) =
     by-test (eqb x 10)
-    (λ t. rw (feed-here x xs t) (ap (soFar (s .chart)) (sym (append-nil (s .line)))))
+    (λ t. rw (feed-here x xs t) (ap (goingOn s) (sym (append-nil (s .line)))))
     (λ t.
     let part = take (indexOf 10 xs) xs in
     rw (feed-later x xs t)
     (ap (λ (next : SoFar). withBytes next part) (byte-kept s x t)
-    ∙ before-feed (soFar (s .chart) (s .line ++ (x ∷ []))) xs
-    ∙ ap (soFar (s .chart)) (append-assoc (s .line) (x ∷ []) part)))
+    ∙ before-feed (goingOn s (s .line ++ (x ∷ []))) xs
+    ∙ ap (goingOn s) (append-assoc (s .line) (x ∷ []) part)))
 
 -- .. and the line feed ends it
 feed-ends : (s : SoFar) (xs : List ℕ) → indexOf 10 xs < length xs
     → withBytes s (take (suc (indexOf 10 xs)) xs) ≡ withPart s (take (indexOf 10 xs) xs) true
-unfolding withBytes withByte withPart
+unfolding withBytes withByte withPart afterEnded
 feed-ends s xs h =
     let k = indexOf 10 xs in
     let part = take k xs in
     let bytes = take-suc xs k 0 h ∙ ap (λ (b : ℕ). part ++ (b ∷ [])) (feed-found xs h) in
     ap (withBytes s) bytes ∙ reads-joined s part (10 ∷ [])
     ∙ ap (λ (t : SoFar). withBytes t (10 ∷ [])) (before-feed s xs)
-    ∙ ap (λ (line : List ℕ). soFar (chartAfterEnded (s .chart) line) []) (append-nil (s .line ++ part))
+    ∙ ap (afterEnded s) (append-nil (s .line ++ part))
 
 -- a turn of the loop, from `at` up to the end that was found
 pub turn : (s : SoFar) (bytes : List ℕ) (at end next : ℕ) → at ≤ length bytes → end ≡ at + indexOf 10 (slice at (length bytes) bytes)
@@ -116,6 +123,50 @@ turn s bytes at end next h found behind =
 
 -- ---- what is held of the line
 
+-- where every answer was written, nothing has failed
+was-told : (s : SoFar) (told : Bool) → told ≡ true → unlessFailed (not told) s ≡ s
+unfolding unlessFailed
+was-told s told e = ap (λ (t : Bool). unlessFailed (not t) s) e
+
+not-told : (s : SoFar) (told : Bool) → told ≡ false → unlessFailed (not told) s ≡ soFar (s .chart) [] 3
+unfolding unlessFailed
+not-told s told e = ap (λ (t : Bool). unlessFailed (not t) s) e
+
+module _ {s : SoFar} {q : Pending} {buffer : List ℕ} (told : q .told ≡ true) where
+  pub unless-told : Holds s q buffer → Holds (unlessFailed (not (q .told)) s) q buffer
+  unless-told held = rw (was-told s (q .told) told) held
+
+  pub held-told : Holds (unlessFailed (not (q .told)) s) q buffer → Holds s q buffer
+  held-told held = rw (was-told s (q .told) told) at held
+
+-- the line has ended, as it was held
+ended-same : {bytes : List ℕ} {n : ℕ} (s : SoFar) (p : Pending) (line : List ℕ) → p .chart ≡ s .chart → p .status ≡ s .status
+    → bytes ≡ take n line → lineRoom ≤ n → afterLine (p .chart) (p .status) (endedLine bytes) ≡ afterEnded s line
+unfolding afterEnded
+ended-same {n = n} s p line chart status bytes room = rw (chart, status, bytes, cut-line n line room)
+
+-- the next line begins
+after-held : (s : SoFar) (r : Pending) (buffer : List ℕ) → s .line ≡ [] → IsAfter s r → Holds (unlessFailed (not (r .told)) s) r buffer
+after-held s r buffer empty after =
+    let none : take (r .len) buffer ≡ take (length buffer) [] = rw (after .none, take-nil) in
+    by-test (r .told)
+    (λ t.
+    rw (was-told s (r .told) t)
+    (record {
+      chart = after .chart;
+      count = omega (arith, after .none, ap length empty);
+      bytes = none ∙ ap (take (length buffer)) (sym empty);
+      status = after .status ∙ ap (λ (told : Bool). choose told (s .status) 3) t;
+    }))
+    (λ t.
+    rw (not-told s (r .told) t)
+    (record {
+      chart = after .chart;
+      count = omega (arith, after .none);
+      bytes = none;
+      status = after .status ∙ ap (λ (told : Bool). choose told (s .status) 3) t;
+    }))
+
 -- a front that was cut may be cut before or after
 cut-front : (n : ℕ) (x y : List ℕ) → take n (take n x ++ y) ≡ take n (x ++ y)
 cut-front n x y =
@@ -135,79 +186,93 @@ module _ {before after part : List ℕ} {next : ℕ} (s : SoFar) (p : Pending) (
       ∙ cut-front (length before) (s .line) part
 
   -- the line goes on
-  pub held-part : Holds (withPart s part false) (record { chart = p .chart; len = next }) after
-  unfolding withPart
+  pub held-part : Holds (unlessFailed false (withPart s part false))
+      (record { chart = p .chart; len = next; status = p .status; told = true }) after
+  unfolding withPart unlessFailed
   held-part =
       let size = puts-length puts in
       record {
         chart = held .chart;
         count = omega (arith, puts-cut within puts .place, held .count, length-append (s .line) part);
         bytes = line-held ∙ ap (λ (n : ℕ). take n (s .line ++ part)) (sym size);
+        status = held .status;
       }
 
   -- the line ends
-  pub held-end : (r : Pending) → lineRoom ≤ length before → r .chart ≡ chartAfterEnded (p .chart) (take next after) → r .len ≡ 0
-      → Holds (withPart s part true) r after
-  unfolding withPart chartAfterEnded
-  held-end r room chart none =
-      record {
-        chart =
-            chart ∙ ap (λ (c : Chart). chartAfterEnded c (take next after)) (held .chart)
-            ∙ ap (chartAfterEnded (s .chart)) line-held
-            ∙ ap (chartAfterLine (s .chart)) (cut-line (length before) (s .line ++ part) room);
-        count = omega arith;
-        bytes = rw none (sym (take-nil (length after)));
-      }
+  pub held-end : (r : Pending) → lineRoom ≤ length before → EndsLine p (take next after) r
+      → Holds (unlessFailed (not (r .told)) (withPart s part true)) r after
+  unfolding withPart afterEnded afterLine
+  held-end r room ended =
+      let line = s .line ++ part in
+      after-held (afterEnded s line) r after refl (rw (ended-same s p line (held .chart) (held .status) line-held room) at ended)
 
 -- ---- the start, a read that failed, and the end of the input
 
-pub held-start : (p : Pending) (buffer : List ℕ) → p .chart ≡ zeroChart → p .len ≡ 0 → Holds atStart p buffer
-held-start p buffer chart none = record { chart = chart; count = omega arith; bytes = rw (none, take-nil) }
+pub held-start : (p : Pending) (buffer : List ℕ) → p .chart ≡ zeroChart → p .len ≡ 0 → p .status ≡ 0 → Holds atStart p buffer
+held-start p buffer chart none status = record { chart = chart; count = omega arith; bytes = rw (none, take-nil); status = status }
 
-pub held-lost : {s : SoFar} {p : Pending} {buffer : List ℕ} → Holds s p buffer
-    → Holds (unlessFailed true (withBytes s [])) (record { chart = p .chart; len = 0 }) buffer
+pub held-lost : {s : SoFar} {p : Pending} {buffer : List ℕ} (status : ℕ) → status ≡ 3 → Holds s p buffer
+    → Holds (unlessFailed true (withBytes s [])) (record { chart = p .chart; len = 0; status = status; told = true }) buffer
 unfolding unlessFailed withBytes
-held-lost {buffer = buffer} held = record { chart = held .chart; count = omega arith; bytes = sym (take-nil (length buffer)) }
+held-lost {buffer = buffer} status e held =
+    record { chart = held .chart; count = omega arith; bytes = sym (take-nil (length buffer)); status = e }
 
--- an empty last line is passed over
-none-left : (chart : Chart) (line : List ℕ) → length line ≡ 0 → chart ≡ chartAfterLine chart (lineIn line)
-unfolding lineIn lineOf fieldsOf
-none-left chart [] h = refl
-none-left chart (b ∷ line) h = absurd (omega arith)
+-- an empty last line is passed over, and has no answer
+empty-line : endedLine [] ≡ passedOver
+unfolding endedLine withoutReturn withoutMark begins sameBytes lineIn lineOf fieldsOf
+empty-line = refl
+
+no-answer : statusOf [] ≡ 0
+unfolding statusOf begins sameBytes holdsBatch
+no-answer = refl
+
+none-left : (chart : Chart) (line : List ℕ) (status : ℕ) → length line ≡ 0 → atEnd (soFar chart line status) ≡ soFar chart [] status
+unfolding atEnd afterEnded afterLine
+none-left chart [] status h = rw (empty-line, no-answer) (ap (soFar chart []) (omega arith))
+none-left chart (b ∷ line) status h = absurd (omega arith)
+
+otherwise : (told : Bool) (x y : ℕ) → choose told x y ≡ choose (not told) y x
+otherwise true x y = refl
+otherwise false x y = refl
 
 module _ (s : SoFar) (p : Pending) (buffer : List ℕ) (room : HasRoom p buffer) (held : Holds s p buffer) where
-  pub held-none : p .len ≡ 0 → p .chart ≡ chartAtEnd s
-  unfolding chartAtEnd
-  held-none none = held .chart ∙ none-left (s .chart) (s .line) (omega (arith, held .count, room .enough))
+  pub held-none : p .len ≡ 0 → IsEnd (atEnd s) p
+  held-none none =
+      rw (none-left (s .chart) (s .line) (s .status) (omega (arith, held .count, room .enough)))
+      (record { lost = false; chart = held .chart; status = held .status })
 
-  pub held-last : (chart : Chart) → chart ≡ chartAfterLine (p .chart) (lineIn (take (p .len) buffer)) → chart ≡ chartAtEnd s
-  unfolding chartAtEnd
-  held-last chart e =
-      e ∙ ap (λ (c : Chart). chartAfterLine c (lineIn (take (p .len) buffer))) (held .chart)
-      ∙ ap (λ (line : List ℕ). chartAfterLine (s .chart) (lineIn line)) (held .bytes)
-      ∙ ap (chartAfterLine (s .chart)) (cut-last (length buffer) (s .line) (room .enough))
+  pub held-last : (r : Pending) → EndsLine p (take (p .len) buffer) r → IsEnd (atEnd s) r
+  unfolding atEnd
+  held-last r ended =
+      let after = rw (ended-same s p (s .line) (held .chart) (held .status) (held .bytes) (room .enough)) at ended in
+      record { lost = not (r .told); chart = after .chart; status = after .status ∙ otherwise (r .told) _ 3 }
 
 -- ---- one read
 
-pub read-came : {p : Pending} {before after : List ℕ} (r : AfterRead) (bytes : List ℕ)
-    → Follows (λ s. withBytes s bytes) p before (r .pending) after → IsRead p before r after
-unfolding unlessFailed
-read-came r bytes follows = record { came = record { bytes = bytes; failed = false; follows = follows }; goes-on = λ _. refl }
-
-pub read-failed : (p : Pending) (buffer : List ℕ)
-    → IsRead p buffer (record { more = false; pending = record { chart = p .chart; len = 0 } }) buffer
-read-failed p buffer =
+pub read-came : {p : Pending} {before after bytes : List ℕ} (r : AfterRead) → Taken bytes p before (r .pending) after
+    → (r .more ≡ true → r .pending .told ≡ true) → IsRead p before r after
+read-came {bytes = bytes} r taken told =
     record {
-      came = record { bytes = []; failed = true; follows = λ s held. held-lost held };
-      goes-on = λ e. absurd (false≢true e);
+      came = record { bytes = take (taken .count) bytes; failed = not (r .pending .told); follows = taken .follows };
+      goes-on = λ more. ap not (told more);
+      told = told;
+    }
+
+pub read-failed : (p : Pending) (buffer : List ℕ) (status : ℕ) → status ≡ 3
+    → IsRead p buffer (record { more = false; pending = record { chart = p .chart; len = 0; status = status; told = true } }) buffer
+read-failed p buffer status e =
+    record {
+      came = record { bytes = []; failed = true; follows = λ s held. held-lost status e held };
+      goes-on = λ more. absurd (false≢true more);
+      told = λ more. absurd (false≢true more);
     }
 
 -- ---- one read after the other
 
--- bytes came, and no read has failed
+-- bytes came, and nothing has failed
 pub record AllCame (p : Pending) (before : List ℕ) (q : Pending) (after : List ℕ) : Type 0 where
   pub bytes : List ℕ
-  pub follows : Follows (λ s. withBytes s bytes) p before q after
+  pub follows : (s : SoFar) → Holds s p before → Holds (withBytes s bytes) q after
 
 pub none-came : (p : Pending) (buffer : List ℕ) → AllCame p buffer p buffer
 unfolding withBytes
@@ -231,5 +296,6 @@ module _ {p q r : Pending} {before between after : List ℕ} (all : AllCame p be
   more-came e =
       record {
         bytes = all .bytes ++ next .bytes;
-        follows = λ s held. rw (reads-joined s (all .bytes) (next .bytes)) (rw e at (next .follows (withBytes s (all .bytes)) (all .follows s held)));
+        follows = λ s held.
+            rw (reads-joined s (all .bytes) (next .bytes)) (rw e at (next .follows (withBytes s (all .bytes)) (all .follows s held)));
       }

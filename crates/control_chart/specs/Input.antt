@@ -85,6 +85,11 @@ pub record HasRoom (p : Pending) (buffer : List ℕ) : Type 0 where
   pub within : p .len ≤ length buffer
   pub enough : lineRoom ≤ length buffer
 
+-- .. and every answer so far was written: if not, no further command is done
+pub record CanTake (p : Pending) (buffer : List ℕ) : Type 0 where
+  pub room : HasRoom p buffer
+  pub told : p .told ≡ true
+
 -- what is pending after a line: s, unless its answer was not written
 pub record IsAfter (s : SoFar) (r : Pending) : Type 0 where
   pub chart : r .chart ≡ s .chart
@@ -110,10 +115,11 @@ pub record Came (p : Pending) (before : List ℕ) (q : Pending) (after : List �
   pub failed : Bool
   pub follows : (s : SoFar) → Holds s p before → Holds (unlessFailed failed (withBytes s bytes)) q after
 
--- one read; where it is not the last, nothing has failed
+-- one read; where it is not the last, nothing has failed, and every answer was written
 pub record IsRead (p : Pending) (before : List ℕ) (r : AfterRead) (after : List ℕ) : Type 0 where
   pub came : Came p before (r .pending) after
   pub goes-on : r .more ≡ true → came .failed ≡ false
+  pub told : r .more ≡ true → r .pending .told ≡ true
 
 -- what stands at the end, unless the last answer was not written
 pub record IsEnd (s : SoFar) (r : Pending) : Type 0 where

@@ -17,8 +17,7 @@ ghost use Prim.Native.Nat.{_+_, _≤_, max};
 ghost use lib.ListN.{length};
 ghost use lib.Dec.{ltb};
 ghost use Rattle.guide.specs.Choice.{choose};
-ghost use Rattle.io.specs.Counts.{Counts};
-ghost use Rattle.control_chart.specs.Input.{withPart, Follows, HasRoom, GivesAtEnd, EndsLine, Answers};
+ghost use Rattle.control_chart.specs.Input.{withPart, Follows, HasRoom, CanTake, GivesAtEnd, EndsLine, Answers};
 ghost use Rattle.control_chart.specs.Input.{Came, Taken, IsRead, IsAtEnd};
 
 // `lineRoom` in `specs/Input`.
@@ -58,7 +57,7 @@ pub fn commands_from_input() -> Pending
 
 // Reads to the end of the input. Nothing says that it ends, so the reads are counted: 2^63 of them are more than any input needs.
 fn take_all(pending: Pending, line: &mut [u8]) -> Pending
-    requires { ⌜ HasRoom pending (now line) ⌝ }
+    requires { ⌜ CanTake pending (now line) ⌝ }
     ensures { λ r. ⌜ r .len ≤ length (now (line .exit)) ⌝ }
     ensures { λ r. ⌜ Came pending (now (line .entry)) r (now (line .exit)) ⌝ }
 {
@@ -89,7 +88,7 @@ fn end_input(pending: Pending, line: &[u8]) -> Pending
 
 // One read. Where it fails, a line that had begun is left out: its end is not known.
 fn read_some(pending: Pending, line: &mut [u8]) -> AfterRead
-    requires { ⌜ HasRoom pending (now line) ⌝ }
+    requires { ⌜ CanTake pending (now line) ⌝ }
     ensures { λ r. ⌜ r .pending .len ≤ length (now (line .exit)) ⌝ }
     ensures { λ r. ⌜ IsRead pending (now (line .entry)) r (now (line .exit)) ⌝ }
 {
@@ -122,7 +121,7 @@ fn read_some(pending: Pending, line: &mut [u8]) -> AfterRead
 
 // Bytes that came: each line that ends among them is answered, and the rest is kept. It stops behind an answer that was not written.
 fn take_bytes(pending: Pending, bytes: &[u8], line: &mut [u8]) -> Pending
-    requires { ⌜ HasRoom pending (now line) ⌝ }
+    requires { ⌜ CanTake pending (now line) ⌝ }
     ensures { λ r. ⌜ r .len ≤ length (now (line .exit)) ⌝ }
     ensures { λ r. ⌜ Taken (now (bytes .entry)) pending (now (line .entry)) r (now (line .exit)) ⌝ }
 {
@@ -148,7 +147,7 @@ fn after_line_feed(bytes: &[u8], end: usize) -> usize
 
 // A part of a line, and whether a line feed follows it.
 fn take_part(pending: Pending, part: &[u8], ends: bool, line: &mut [u8]) -> Pending
-    requires { ⌜ HasRoom pending (now line) ⌝ }
+    requires { ⌜ CanTake pending (now line) ⌝ }
     ensures { λ r. ⌜ r .len ≤ length (now (line .exit)) ⌝ }
     ensures { λ r. ⌜ Follows (λ s. withPart s (now (part .entry)) ends) pending (now (line .entry)) r (now (line .exit)) ⌝ }
 {

@@ -25,8 +25,8 @@ returns : tie.Need-returns
 returns c =
     let taken = c .before .before .before in
     let came = taken .take-all .ensures .1 in
-    let start = held-start _ _ (taken .before .before .zero-chart .ensures) refl in
-    record { bytes = came .bytes; failed = came .failed; same = c .end-input .ensures _ (came .follows atStart start) }
+    let start = held-start _ _ (taken .before .before .zero-chart .ensures) refl refl in
+    record { bytes = came .bytes; failed = came .failed; end = c .end-input .ensures _ (came .follows atStart start) }
 
 pub commands-from-input-spec : {M : Type 1} → statement M
 commands-from-input-spec =

@@ -1,6 +1,8 @@
 -- `control_chart::input::read_some` meets its contract.
 use native.Mathlib.Omega.{arith}
 use borrow.Author.Needs.{needs}
+use lib.Dec.{ltb}
+use Rattle.guide.proofs.Booleans.{both}
 use Rattle.control_chart.proofs.Taking.{read-came, read-failed}
 use Rattle.control_chart.proofs.input.read_some.Statement.{statement}
 use Rattle.control_chart.proofs.input.read_some.Tie as tie
@@ -14,20 +16,17 @@ slice-aggregate-read c = search needs
 read-requires : tie.Need-read-requires
 read-requires c κs = search needs
 
-slice-aggregate-say-failure : tie.Need-slice-aggregate-say-failure
-slice-aggregate-say-failure c = search needs
+slice-aggregate-failure : tie.Need-slice-aggregate-failure
+slice-aggregate-failure c = search needs
 
-errno-requires : tie.Need-errno-requires
-errno-requires c κs = search needs
+slice-aggregate-failure-2 : tie.Need-slice-aggregate-failure-2
+slice-aggregate-failure-2 c = search needs
 
-slice-aggregate-say-failure-2 : tie.Need-slice-aggregate-say-failure-2
-slice-aggregate-say-failure-2 c = search needs
-
-say-failure-requires : tie.Need-say-failure-requires
-say-failure-requires c κs = search needs
+failure-requires : tie.Need-failure-requires
+failure-requires c κs = search needs
 
 returns : tie.Need-returns
-returns c = (omega arith, read-failed _ _)
+returns c = (omega arith, read-failed _ _ _ (c .failure .ensures))
 
 slice-aggregate-count : tie.Need-slice-aggregate-count
 slice-aggregate-count c = search needs
@@ -48,7 +47,11 @@ same-length : tie.Need-same-length
 same-length c = search needs
 
 returns-2 : tie.Need-returns-2
-returns-2 c = let took = c .before .before .take-bytes .ensures in (took .0, read-came _ _ (took .1))
+returns-2 c =
+    let taking = c .before .before in
+    let n = taking .before .before .before .count .result in
+    let took = taking .take-bytes .ensures in
+    (took .0, read-came _ (took .1) (λ more. both (ltb 0 n) _ more .1))
 
 pub read-some-spec : {M : Type 1} → statement M
 read-some-spec =
@@ -57,10 +60,9 @@ read-some-spec =
     buffer-requires
     slice-aggregate-read
     read-requires
-    slice-aggregate-say-failure
-    errno-requires
-    slice-aggregate-say-failure-2
-    say-failure-requires
+    slice-aggregate-failure
+    slice-aggregate-failure-2
+    failure-requires
     returns
     slice-aggregate-count
     count-requires

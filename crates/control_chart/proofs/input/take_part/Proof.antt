@@ -21,17 +21,19 @@ returns c =
     let put = c .before .before .before in
     let start = put .before .before .before .before .before in
     let goes-on : start .args .ends ≡ false = not-true (start .args .ends) (c .if1 .taken) in (
-      puts-within (omega (arith, start .pre .within)) (put .put-text .ensures),
+      puts-within (omega (arith, start .pre .room .within)) (put .put-text .ensures),
       λ s held. rw goes-on (held-part s (start .args .pending) held (put .put-text .ensures)),
     )
 
 slice-reshare-prefix-end-line : tie.Need-slice-reshare-prefix-end-line
 slice-reshare-prefix-end-line c =
-    let put = c .before .before .before in puts-within (omega (arith, put .before .before .before .before .before .pre .within)) (put .put-text .ensures)
+    let put = c .before .before .before in
+    puts-within (omega (arith, put .before .before .before .before .before .pre .room .within)) (put .put-text .ensures)
 
 slice-aggregate-end-line : tie.Need-slice-aggregate-end-line
 slice-aggregate-end-line c =
-    let put = c .before .before .before .before in text-counts (omega (arith, put .before .before .before .before .before .pre .within)) (put .put-text .ensures) .1
+    let put = c .before .before .before .before in
+    text-counts (omega (arith, put .before .before .before .before .before .pre .room .within)) (put .put-text .ensures) .1
 
 end-line-requires : tie.Need-end-line-requires
 end-line-requires c κs = search needs
@@ -46,9 +48,9 @@ returns-2 c =
     let start = put .before .before .before .before .before in
     let ended = c .end-line .ensures in
     let ends : start .args .ends ≡ true = not-false (start .args .ends) (tested .if1 .left) in (
-      omega (arith, ended .1),
+      omega (arith, ended .none),
       λ s held.
-          rw ends (held-end s (start .args .pending) held (put .put-text .ensures) (c .end-line .result) (start .pre .enough) (ended .0) (ended .1)),
+          rw ends (held-end s (start .args .pending) held (put .put-text .ensures) (c .end-line .result) (start .pre .room .enough) ended),
     )
 
 pub take-part-spec : {M : Type 1} → statement M
