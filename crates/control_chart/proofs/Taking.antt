@@ -6,7 +6,7 @@ use mathlib.Core.Bool.{Bool, true, false, not, false≢true}
 use mathlib.Core.List.{List, [], _∷_, _++_, append-assoc, append-nil}
 use Prim.Native.Nat.{ℕ, suc, _+_, _-_, _<_, _≤_}
 use native.Mathlib.Omega.{arith}
-use borrow.Author.Tests.{lt-ltb, le-ltb, eqb-true}
+use borrow.Author.Tests.{lt-ltb, le-ltb, eqb-true, not-true}
 use lib.Dec.{eqb, ltb}
 use lib.ListN.{length, take, drop, getD, length-append, length-take, length-drop}
 use lib.Seq.{take-all, take-nil, take-suc, take-add, take-at, take-append-le}
@@ -239,13 +239,13 @@ module _ (s : SoFar) (p : Pending) (buffer : List ℕ) (room : HasRoom p buffer)
   pub held-none : p .len ≡ 0 → IsEnd (atEnd s) p
   held-none none =
       rw (none-left (s .chart) (s .line) (s .status) (omega (arith, held .count, room .enough)))
-      (record { lost = false; chart = held .chart; status = held .status })
+      (record { lost = false; not-told = λ e. absurd (false≢true e); chart = held .chart; status = held .status })
 
   pub held-last : (r : Pending) → EndsLine p (take (p .len) buffer) r → IsEnd (atEnd s) r
   unfolding atEnd
   held-last r ended =
       let after = rw (ended-same s p (s .line) (held .chart) (held .status) (held .bytes) (room .enough)) at ended in
-      record { lost = not (r .told); chart = after .chart; status = after .status ∙ otherwise (r .told) _ 3 }
+      record { lost = not (r .told); not-told = not-true (r .told); chart = after .chart; status = after .status ∙ otherwise (r .told) _ 3 }
 
 -- ---- one read
 

@@ -124,6 +124,7 @@ pub record IsRead (p : Pending) (before : List ℕ) (r : AfterRead) (after : Lis
 -- what stands at the end, unless the last answer was not written
 pub record IsEnd (s : SoFar) (r : Pending) : Type 0 where
   pub lost : Bool
+  pub not-told : lost ≡ true → r .told ≡ false
   pub chart : r .chart ≡ s .chart
   pub status : r .status ≡ choose lost 3 (s .status)
 
