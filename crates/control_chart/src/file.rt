@@ -117,7 +117,7 @@ fn change_locked(path: &[u8], lock: &[u8], fd: i32, line: &[u8]) -> u8 {
     let n = read.len;
     if !read.done {
         failure(path, b"it cannot be read, and the command was not done");
-        release(lock);
+        release(lock, fd);
         return ERROR;
     }
     let permissions = read.permissions;
@@ -142,15 +142,15 @@ fn change_held(
     match outcome {
         Outcome::Changed => keep(path, lock, fd, permissions, &form[..n], &out[..size]),
         Outcome::Answered => {
-            release(lock);
+            release(lock, fd);
             answer(path, &out[..size])
         }
         Outcome::Fault => {
-            release(lock);
+            release(lock, fd);
             error(path, &out[..size])
         }
         Outcome::NoRoom => {
-            release(lock);
+            release(lock, fd);
             error(
                 path,
                 b"the chart is too long for a stored form; nothing was done",

@@ -16,6 +16,15 @@ fn ended(written: bool) -> u8 {
 }
 
 pub fn explain() -> u8 {
+    say_usage();
+    say_commands();
+    say_numbers();
+    say_refusals();
+    say_files();
+    ended(say(b"Answers go to standard output, errors about FILE to standard error.\n"))
+}
+
+fn say_usage() {
     say(b"control_chart: a control chart for duplicate, check and spike results\n\n");
     say(
         b"control_chart                    commands on standard input, one to a line; no chart until build or read\n",
@@ -26,21 +35,25 @@ pub fn explain() -> u8 {
     say(b"control_chart help               this text, as -h and --help\n");
     say(b"control_chart --version          the version\n\n");
     say(
+        b"Exit status: 0 done (after post and reanalyse: the batch may go), 1 hold the batch (verdict 1 to 4, failed),\n",
+    );
+    say(b"2 refused, 3 error; of several answers the highest.\n\n");
+    say(
         b"Blanks separate fields. Numbers are whole and in decimal. Words are in hundredths of a percent: 10000 is 100 %.\n",
     );
     say(
-        b"Exit status: 0 go on, 1 hold the batch (verdict 1 to 4, failed), 2 refused, 3 error; of several answers the highest.\n\n",
+        b"Empty lines, lines that begin with #, and a byte order mark before a line are passed over. A line has at most\n",
     );
-    say_commands();
-    say_numbers();
-    say_refusals();
+    say(b"8191 bytes.\n\n");
+}
+
+fn say_files() {
     say(
-        b"Empty lines and lines that begin with # are passed over. A line has at most 8191 bytes.\n",
+        b"A command that may change the chart makes FILE.lock, so that one works at a time, and replaces FILE whole or not\n",
     );
     say(
-        b"A command that changes the chart makes FILE.lock, so that one works at a time, and replaces FILE whole or not at all.\n",
+        b"at all. A killed command leaves FILE.lock and was not done: remove FILE.lock and repeat the command.\n",
     );
-    ended(say(b"Answers go to standard output, errors about FILE to standard error.\n"))
 }
 
 fn say_commands() {

@@ -47,13 +47,15 @@ fn put_locked(lock: &[u8], text: &mut [u8]) -> usize
     let at_name = put_text(
         text,
         0,
-        b"another command is at work on it, and nothing was done; if none is, one was stopped: remove ",
+        b"another command is at work on it, and nothing was done; if none is, not even a suspended one, one was killed: remove ",
     );
     let behind_name = put_text(text, at_name, lock);
     put_text(text, behind_name, b" and repeat the command")
 }
 
-// Removes the lock that this process made. The file stays as it is.
-pub fn release(lock: &[u8]) {
-    os::unlink(lock);
+// Removes the lock that this process made. The file stays as it is. Where somebody else removed it, the name may be another's lock by now.
+pub fn release(lock: &[u8], fd: i32) {
+    if system::has_name(fd) {
+        os::unlink(lock);
+    }
 }

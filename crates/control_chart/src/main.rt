@@ -30,6 +30,9 @@ use say::error;
 use say::file_first;
 use say::write_text;
 
+// The most bytes of FILE's name: `.lock` follows it, and a path has at most 4,095.
+const NAME_MOST: usize = 4090;
+
 // Where the script reads the exit status.
 const STATUS_FD: i32 = 3;
 
@@ -75,22 +78,37 @@ fn run(first: usize, count: usize) -> u8 {
     let mut path = io::buffer();
     let n = os::arg(first, &mut path);
     if os::errno() != 0 {
-        return error(
-            b"FILE",
-            b"the name is too long; a name has at most 4090 bytes",
-        );
+        return long_name();
     }
-    if count - first == 1 {
-        return first_alone(&path[..n]);
-    }
-    command_on_file(&path[..n], first + 1, count)
+    by_first(&path[..n], first + 1, count)
 }
 
-// One argument: what is asked of the program itself, or a file without a command.
-fn first_alone(word: &[u8]) -> u8 {
+fn long_name() -> u8 {
+    error(
+        b"FILE",
+        b"the name is too long; a name has at most 4090 bytes",
+    )
+}
+
+// By the first argument: what is asked of the program itself, or a file, whose command begins with the next argument.
+fn by_first(word: &[u8], next: usize, count: usize) -> u8 {
     if asks_for_help(word) {
         return explain();
     }
+    if NAME_MOST < word.len() {
+        return long_name();
+    }
+    if word.len() == 0 {
+        return error(b"FILE", b"the name is empty");
+    }
+    if next < count {
+        return command_on_file(word, next, count);
+    }
+    first_alone(word)
+}
+
+// One argument: the version, or a file without a command.
+fn first_alone(word: &[u8]) -> u8 {
     if same_bytes(word, b"--version") {
         return say_version();
     }

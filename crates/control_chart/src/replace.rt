@@ -1,6 +1,7 @@
 // A file replaced, so that at every moment the old bytes or the new stand whole under its name: the new bytes go into the file's lock, which
 // is synced and then renamed over the file.
 use crate::lock::release;
+use crate::say::error;
 use crate::say::failure;
 use crate::say::write_text;
 use system::Permissions;
@@ -10,7 +11,8 @@ ghost use Rattle.control_chart.specs.Folder.{IsFolder};
 // What `fchown` takes for an owner that is to stay.
 const SAME_OWNER: u32 = 4294967295;
 
-// Whether it was done. If not, it is said why, the lock is gone, and the file is as it was.
+// Whether it was done. If not, it is said why, the lock is gone, and the file is as it was. The lock stays open, so that it can be seen whether
+// it is still there: renaming by its name would take whatever lock has the name.
 pub fn replace_file(
     path: &[u8],
     lock: &[u8],
@@ -23,7 +25,14 @@ pub fn replace_file(
             path,
             b"it cannot be written and is as it was, and the command was not done",
         );
-        release(lock);
+        release(lock, fd);
+        return false;
+    }
+    if !system::has_name(fd) {
+        error(
+            path,
+            b"its lock was removed by somebody else; it is as it was, and the command was not done",
+        );
         return false;
     }
     if os::rename(lock, path) != 0 {
@@ -31,13 +40,13 @@ pub fn replace_file(
             path,
             b"it cannot be replaced and is as it was, and the command was not done",
         );
-        release(lock);
+        release(lock, fd);
         return false;
     }
     true
 }
 
-// The old file's permissions, then the new bytes, synced and closed.
+// The old file's permissions, then the new bytes, synced.
 fn fill_lock(fd: i32, permissions: Permissions, form: &[u8]) -> bool {
     if !give_permissions(fd, permissions) {
         return false;
@@ -45,10 +54,7 @@ fn fill_lock(fd: i32, permissions: Permissions, form: &[u8]) -> bool {
     if !write_text(fd, form) {
         return false;
     }
-    if libc::fsync(fd) != 0 {
-        return false;
-    }
-    libc::close(fd) == 0
+    libc::fsync(fd) == 0
 }
 
 // The mode of the file that was there. Its owner and group are given too, as far as this user may.

@@ -1,5 +1,5 @@
 -- What a command on a file comes to keeps every chart: the form to keep is that of the chart after the command, and reading it gives that chart
--- (`kept-form`, `kept-read`); where the file is to stay, it holds that form already (`nothing-lost`); and a command that may not change the
+-- (`kept-form`, `kept-read`); where the file is to stay and that chart is sound, it holds that form already (`nothing-lost`); and a command that may not change the
 -- chart never asks for a new form, so it needs no lock (`only-read`). A buffer of 814 bytes has room for every form (`room-enough`).
 use mathlib.Core.Path.{_≡_, refl, sym, ap, _∙_}
 use mathlib.Core.Bool.{Bool, true, false, false≢true}

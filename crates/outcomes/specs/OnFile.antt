@@ -1,6 +1,6 @@
 -- One command on the chart in a file: from the bytes that the file held and the command's line to what becomes of the file and what is said.
--- `proofs/Files` has that the bytes to keep are those of the chart after the command, and that where none are to be kept the file has them
--- already.
+-- `proofs/Files` has that the bytes to keep are those of the chart after the command, and that where none are to be kept the file has the bytes
+-- of that chart already, if it is sound; a refused build where there is no file leaves none.
 use mathlib.Core.Path.{_≡_}
 use mathlib.Core.Bool.{Bool, true, false}
 use mathlib.Core.List.{List, []}

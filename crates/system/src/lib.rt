@@ -1,4 +1,4 @@
-// Calls of the system that the kit's `os` has not: on an open file's permissions, on a path, and a pause.
+// Calls of the system that the kit's `os` has not: on an open file, on a path, and a pause.
 //
 // A path is read up to its first 0. One of 4,096 bytes or more is not handed on, since a path that is cut short names another file.
 mod path;
@@ -43,6 +43,15 @@ pub fn permissions_of(fd: i32) -> Permissions {
         owner: status.owner,
         group: status.group,
     }
+}
+
+// Whether the open file still has a name: somebody may have removed it.
+pub fn has_name(fd: i32) -> bool {
+    let status = status_of(fd);
+    if status.answer != 0 {
+        return false;
+    }
+    0 < status.links
 }
 
 // libc::nanosleep. What remains after a signal is not waited for.

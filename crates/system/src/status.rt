@@ -5,6 +5,7 @@ use libc::types::timespec;
 // What fstat answers, and what is used of what it tells.
 pub struct FileStatus {
     pub answer: i32,
+    pub links: u64,
     pub mode: u32,
     pub owner: u32,
     pub group: u32,
@@ -39,6 +40,7 @@ fn status_in(fd: i32, mut told: stat) -> FileStatus {
     let answer = libc::fstat(fd, &mut told);
     FileStatus {
         answer: answer,
+        links: told.st_nlink,
         mode: told.st_mode,
         owner: told.st_uid,
         group: told.st_gid,
