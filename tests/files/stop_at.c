@@ -5,6 +5,7 @@
  *     kill@K      at the entry of system call K the program is killed (SIGKILL); the call is not done
  *     give@K=N    system call K is not done, and gives N: -28 is the failure ENOSPC
  *     cut@K=N     system call K is done with N as its third argument: a read or a write of N bytes
+ *     run@K=TEXT  at the entry of system call K the program waits while a shell does TEXT; then the call is done
  *
  * The calls are counted from 1, the first one after the program was loaded. LOG gets a line for each: its number in the
  * system's table, its first three arguments, the file names among its arguments, and behind `=` what it gave, or `-` where
@@ -29,12 +30,13 @@
 #endif
 
 enum { NOT_PERMITTED = 125, FAILED = 124, ACTIONS_MOST = 16 };
-enum what { KILL, GIVE, CUT };
+enum what { KILL, GIVE, CUT, RUN };
 
 struct action {
     enum what what;
     long call;
     long number;
+    const char *text;
 };
 
 static struct action actions[ACTIONS_MOST];
@@ -47,12 +49,14 @@ static int end(int status, const char *what) {
 
 /* Whether the text is an action, which is then kept. */
 static int take_action(const char *text) {
-    struct action a = {KILL, 0, 0};
+    struct action a = {KILL, 0, 0, NULL};
+    int front = 0;
     char rest;
     if (actions_len == ACTIONS_MOST) return 0;
     if (sscanf(text, "kill@%ld%c", &a.call, &rest) == 1) a.what = KILL;
     else if (sscanf(text, "give@%ld=%ld%c", &a.call, &a.number, &rest) == 2) a.what = GIVE;
     else if (sscanf(text, "cut@%ld=%ld%c", &a.call, &a.number, &rest) == 2) a.what = CUT;
+    else if (sscanf(text, "run@%ld=%n", &a.call, &front) == 1 && front > 0) a.what = RUN, a.text = text + front;
     else return 0;
     actions[actions_len++] = a;
     return 1;
@@ -66,6 +70,7 @@ static const struct action *action_at(long call) {
 
 /* The program waits at the entry of a call. A call with the number -1 is one that the system does not do. */
 static long act(pid_t pid, const struct action *a, struct user_regs_struct regs) {
+    if (a->what == RUN) return system(a->text);
     if (a->what == CUT) regs.rdx = (unsigned long long)a->number;
     else regs.orig_rax = (unsigned long long)-1;
     if (ptrace(PTRACE_SETREGS, pid, NULL, &regs) != 0) return -1;
@@ -149,7 +154,7 @@ int main(int argc, char **argv) {
     int first = 2;
     while (first < argc && take_action(argv[first])) first++;
     if (argc < 4 || first + 1 >= argc || strcmp(argv[first], "--") != 0) {
-        fprintf(stderr, "usage: stop_at LOG [kill@K | give@K=N | cut@K=N ..] -- PROGRAM [ARGUMENT ..]\n");
+        fprintf(stderr, "usage: stop_at LOG [kill@K | give@K=N | cut@K=N | run@K=TEXT ..] -- PROGRAM [ARGUMENT ..]\n");
         return FAILED;
     }
     FILE *log = fopen(argv[1], "we");

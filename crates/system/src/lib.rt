@@ -45,11 +45,11 @@ pub fn permissions_of(fd: i32) -> Permissions {
     }
 }
 
-// Whether the open file still has a name: somebody may have removed it.
+// Whether the open file still has a name: somebody may have removed it. Where that cannot be told, it counts as there.
 pub fn has_name(fd: i32) -> bool {
     let status = status_of(fd);
     if status.answer != 0 {
-        return false;
+        return true;
     }
     0 < status.links
 }
