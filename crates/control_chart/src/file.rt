@@ -58,6 +58,7 @@ fn look_at_file(path: &[u8], line: &[u8]) -> u8 {
     say_look(path, read.there, &held[..n], line)
 }
 
+// A command that may not change the chart never asks for a new form (`only-read` in `outcomes/proofs/Files`), so the last arm is not met.
 fn say_look(path: &[u8], there: bool, held: &[u8], line: &[u8]) -> u8 {
     let mut form = [0u8; FILE_ROOM];
     let mut out = [0u8; ANSWER_MOST];
@@ -124,6 +125,7 @@ fn change_locked(path: &[u8], lock: &[u8], fd: i32, line: &[u8]) -> u8 {
     change_held(path, lock, fd, permissions, read.there, &held[..n], line)
 }
 
+// The buffer has room for every form (`room-enough` in `outcomes/proofs/Files`), so the last arm is not met.
 fn change_held(
     path: &[u8],
     lock: &[u8],

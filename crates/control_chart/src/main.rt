@@ -54,14 +54,13 @@ fn asks_for_status(count: usize) -> bool {
     same_bytes(&word[..n], b"--status")
 }
 
-fn tell_status(status: u8) {
+fn tell_status(status: u8) -> bool {
     match status {
         0 => write_text(STATUS_FD, b"0"),
         1 => write_text(STATUS_FD, b"1"),
         2 => write_text(STATUS_FD, b"2"),
         _ => write_text(STATUS_FD, b"3"),
     }
-    ;
 }
 
 // By the arguments from the first one on. Answers the exit status. Where standard output is closed, a file that is opened would take its
