@@ -5,6 +5,9 @@ use crate::say::failure;
 use printing::put_text;
 ghost use Rattle.io.specs.Counts.{Counts};
 
+// Room for what is said of a lock: the longest name, and what to do.
+const LOCKED_ROOM: usize = 8192;
+
 // How often the lock is tried for, with a pause of 5 ms after each: for two seconds.
 const TRIES: u32 = 400;
 
@@ -36,7 +39,7 @@ pub fn take_lock(path: &[u8], lock: &[u8]) -> i32 {
 }
 
 fn say_locked(path: &[u8], lock: &[u8]) {
-    let mut text = io::buffer();
+    let mut text = [0u8; LOCKED_ROOM];
     let n = put_locked(lock, &mut text);
     error(path, &text[..n]);
 }

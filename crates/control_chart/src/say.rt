@@ -10,8 +10,8 @@ ghost use Rattle.io.specs.Counts.{Counts};
 // The exit status of an error.
 pub const ERROR: u8 = 3;
 
-// Room for an error: the longest name, and what is wrong.
-const ERROR_ROOM: usize = 8192;
+// Room for an error: the longest name, and what is wrong, in which the lock's name may stand too.
+const ERROR_ROOM: usize = 16384;
 
 // How many bytes a write took, and whether to go on.
 struct Written {
