@@ -107,6 +107,8 @@ def plan(rng, chart, wanted, side=None):
             pool = [edge + way, edge + 2 * way, far, far - way, (edge + far) // 2]
             words = [rng.choice(pool), rng.choice(pool)]
         elif wanted == 3:
+            if bottom > top:
+                return None
             room = max(1, (top - bottom) // 8)
             steps = [rng.choice((1, rng.randint(1, room))) for _ in range(6)]
             first = rng.randint(bottom, top)
