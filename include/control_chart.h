@@ -1,54 +1,37 @@
 /* Control charts for laboratories: the C interface, for x86-64 Linux.
  *
- * Results of duplicate, check and spike samples become words; a chart is built from 15 to 32 words and judges every further one. The
- * functions are proved, in Rattle, to answer what the paper "Control charts for duplicate, check and spike results" fixes, on every
- * input. Nothing but tests checks this header against them.
+ * Results of duplicate, check and spike samples become words. A chart is built from 15 to 32 words and judges every further one. The
+ * functions are proved, in Rattle, to answer on every input what the paper "Control charts for duplicate, check and spike results" fixes.
+ * Tests compare this header with the functions; no proof covers it.
  *
  * A WORD is a percentage in hundredths: 10000 is 100 %. READINGS are whole numbers in the method's smallest digit: 0.123 mg/L at three
- * decimals is 123. A call takes a kind and three of them:
+ * decimals is 123. A call takes a kind and three readings:
  *
  *     kind 1, duplicate   a, b: the two results; c is ignored              word = 20000 * |a - b| / (a + b), in 0..20000
  *     kind 2, check       a: found; b: made up; c is ignored               word = 10000 * a / b, in -20000..20000
  *     kind 3, spike       a: spiked sample; b: unspiked sample; c: added   word = 10000 * (a - b) / c, in -20000..20000
  *
- * each to the nearest whole number, halves away from zero.
+ * The quotient goes to the nearest whole number, halves away from zero.
  *
- * THE CHART is its base, the words that its limits come from, its series, the words posted since, and whether it is free or a reanalysis or
- * a correction is due for the verdict that is open. It is always in its stored form, in a buffer that the caller lends. The form is bytes, the
- * same on every machine: keep them in a file or a database as they are. `room` is the number of bytes of the buffer, and *size that of the
- * form, which stands at its front. Building sets *size; post, reanalyse, correct and renew take it and set it; lines, against_lines and
- * check take the form's size itself. A buffer of CONTROL_CHART_FORM_MOST bytes has room for every chart. Bytes behind the form stay as they
- * are: only the first *size bytes are the chart, to be kept after every call that changes it. To go on with a kept chart, copy its bytes to
- * the front of a buffer, set *size to their number, and ask control_chart_check.
+ * THE CHART has a base, the words that its limits come from, and a series, the words posted since. It is free, or a reanalysis or a
+ * correction is due for an open verdict. A chart is always in its stored form, in a buffer that the caller lends. The form is bytes, the
+ * same on every machine: keep them as they are, in a file or a database. The form stands at the front of the buffer. `room` is the number
+ * of bytes of the buffer, *size the number of bytes of the form. Building sets *size; post, reanalyse, correct and renew take it and set
+ * it; lines, against_lines and check take the form's size itself. CONTROL_CHART_FORM_MOST bytes are room for every chart. Bytes behind the
+ * form stay as they are. Keep the first *size bytes after every call that changes the chart. To go on with a kept chart, copy its bytes to
+ * the front of a buffer, set *size to their number, and call control_chart_check.
  *
  * THE LIMITS come from the words of the base: their mean and their standard deviation S, with the divisor n - 1. Control limits are the
- * mean + 3 S and the mean - 3 S, warning limits the mean + 2 S and the mean - 2 S; a kind 1 chart has only the upper ones.
+ * mean + 3 S and the mean - 3 S, warning limits the mean + 2 S and the mean - 2 S. A kind 1 chart has only the upper ones.
  *
- * THE ANSWER of every function is 0, or the number of a refusal:
+ * THE ANSWER of every function is 0 or the number of a refusal; both have names below. Each function lists its refusals in their order:
+ * where several apply, it answers the first. 13 is also the answer where *size is more than `room`. A refused call changes nothing: every
+ * lent byte and number is as it was. What to do after each refusal stands in docs/REFUSALS.md of the project.
  *
- *      1   the kind is not 1, 2 or 3 (a word alone, and building)
- *      2   not 15 to 32 words
- *      3   a word out of the kind's range
- *      4   a reading of another kind than the chart
- *      5   a reading outside 0..1,000,000,000
- *      6   the divisor is 0: both duplicates are 0, or nothing was made up or added
- *      7   the word is out of range
- *      8   a reanalysis or a correction is due
- *      9   the series has 366 words: renew the chart
- *     10   no reanalysis is due
- *     11   no correction is due
- *     12   base and series have fewer than 15 words together
- *     13   the bytes are no stored form (also where *size is more than room)
- *     14   the chart in the bytes is not sound, as its words, status and verdict do not fit each other: it was altered by something else;
- *          take the last good copy. An alteration after which they fit is not noticed
- *     15   a buffer is too short for what goes into it
- *
- * Where more than one applies, the first in the order that stands at the function is answered. A refused call changes nothing: every
- * lent byte and number is as it was.
- *
- * POINTERS must not be null, also where the length beside them is 0, must be aligned for their type, and must lead to as many elements as
- * that length says. Memory that is lent for writing must not overlap any other that is lent to the same call. The functions keep nothing
- * between calls, allocate nothing and use some kilobytes of stack; calls may run at the same time if none writes what another is lent.
+ * POINTERS must not be null, not even where the length beside them is 0. They must be aligned for their type and lead to as many elements
+ * as that length says. Memory that is lent for writing must not overlap other memory that is lent to the same call. The functions keep
+ * nothing between calls, allocate nothing and use some kilobytes of stack. Calls may run at the same time if none writes what another is
+ * lent.
  */
 #ifndef CONTROL_CHART_H
 #define CONTROL_CHART_H
@@ -56,12 +39,42 @@
 #include <stddef.h>
 #include <stdint.h>
 
-/* The version, as `control_chart --version` says it. */
+/* The version, as `control_chart --version` gives it. */
 #define CONTROL_CHART_VERSION "1.0.0"
 
 #ifdef __cplusplus
 extern "C" {
 #endif
+
+/* Kinds. */
+#define CONTROL_CHART_DUPLICATE          1
+#define CONTROL_CHART_CHECK              2
+#define CONTROL_CHART_SPIKE              3
+
+/* Verdicts, and what each means: control_chart_verdict_text gives the same text. */
+#define CONTROL_CHART_VERDICT_NONE       0 /* none */
+#define CONTROL_CHART_VERDICT_CONTROL    1 /* beyond a control limit */
+#define CONTROL_CHART_VERDICT_WARNING    2 /* two in a row beyond the warning limit on one side */
+#define CONTROL_CHART_VERDICT_TREND      3 /* seven in a row rising or falling */
+#define CONTROL_CHART_VERDICT_SIDE       4 /* seven in a row on one side of the mean */
+
+/* Answers, and what each means: control_chart_refusal_text gives the same text. */
+#define CONTROL_CHART_DONE               0 /* done */
+#define CONTROL_CHART_NO_KIND            1 /* the kind is not 1, 2 or 3 */
+#define CONTROL_CHART_WORD_COUNT         2 /* there are not 15 to 32 words */
+#define CONTROL_CHART_BASE_RANGE         3 /* a word of the base is out of range */
+#define CONTROL_CHART_OTHER_KIND         4 /* the reading is of another kind than the chart */
+#define CONTROL_CHART_READING_RANGE      5 /* a reading is not in 0..1000000000 */
+#define CONTROL_CHART_DIVISOR_0          6 /* the divisor is 0 */
+#define CONTROL_CHART_WORD_RANGE         7 /* the word is out of range */
+#define CONTROL_CHART_DUE                8 /* a reanalysis or a correction is due */
+#define CONTROL_CHART_FULL               9 /* the series is full: it has 366 words */
+#define CONTROL_CHART_NO_REANALYSIS_DUE 10 /* no reanalysis is due */
+#define CONTROL_CHART_NO_CORRECTION_DUE 11 /* no correction is due */
+#define CONTROL_CHART_TOO_FEW           12 /* base and series have fewer than 15 words */
+#define CONTROL_CHART_NOT_A_FORM        13 /* the bytes are not a stored form */
+#define CONTROL_CHART_NOT_SOUND         14 /* there is no chart, or it is not sound */
+#define CONTROL_CHART_NO_ROOM           15 /* the buffer is too short */
 
 /* The bytes of the longest stored form: 32 words in the base and 366 in the series. */
 #define CONTROL_CHART_FORM_MOST 814
@@ -72,20 +85,23 @@ extern "C" {
 /* The bytes that control_chart_against_lines answers. */
 #define CONTROL_CHART_BEYOND 4
 
+/* Room for every text that follows, with its 0 byte. */
+#define CONTROL_CHART_TEXT_MOST 64
+
 /* The word of a reading, to collect a base: *word.
  * Refuses 1, 5, 6, 7. */
 uint16_t control_chart_word(uint32_t kind, int64_t a, int64_t b, int64_t c, int16_t *word);
 
-/* A new chart from `count` words of one kind, as control_chart_word gives them. Words beyond the control limits are removed, round by round
- * with the limits of the rest. The form goes to the front of `chart`; *size: its bytes; *rounds: the rounds, the last of which removes
- * nothing; *removed: how many words they removed. What `chart` and *size held before is not looked at.
+/* A new chart from `count` words of one kind, as control_chart_word gives them. Each round removes the words beyond the control limits and
+ * works out the limits of the rest; the last round removes nothing. The form goes to the front of `chart`; *size: its bytes; *rounds: the
+ * number of rounds; *removed: the number of words removed. What `chart` and *size held before does not matter.
  * Refuses 1, 2, 3, 15. */
 uint16_t control_chart_build(uint32_t kind, const int16_t *words, size_t count,
                              uint8_t *chart, size_t room, size_t *size,
                              size_t *rounds, size_t *removed);
 
-/* Forms the word of a reading, judges it, and adds it to the series, which makes the form two bytes longer. *word, and *verdict, the lowest
- * that applies:
+/* Forms the word of a reading, judges it and adds it to the series. The form becomes two bytes longer. *word: the word; *verdict: the lowest
+ * of these that applies, or 0:
  *     1   beyond a control limit: a reanalysis is due
  *     2   this word and the one before it in the series are beyond the warning limit on the same side: a reanalysis is due
  *     3   the last seven words of the series rise strictly, or fall strictly: a reanalysis is due
@@ -96,8 +112,8 @@ uint16_t control_chart_post(uint8_t *chart, size_t room, size_t *size,
                             uint32_t kind, int64_t a, int64_t b, int64_t c,
                             int16_t *word, uint16_t *verdict);
 
-/* The sample, analysed again. *word, and *passed: 1 where the reanalysis passes; its word then takes the place of the series' last and the
- * chart is free. 0 where it fails; the series stays and a correction is due. It passes if its word is not beyond a control limit and
+/* The sample, analysed again. *word: the word; *passed: 1 or 0. 1: the reanalysis passes, its word takes the place of the series' last, and
+ * the chart is free. 0: it fails, the series stays, and a correction is due. It passes if its word is not beyond a control limit and
  *     for verdict 2   not beyond a warning limit either;
  *     for verdict 3   less than S from the mean, or, where the seven words rise (fall), below (above) the series' last word but one;
  *     for verdict 4   less than S from the mean, or not on the side of the mean on which the seven words are.
@@ -110,16 +126,16 @@ uint16_t control_chart_reanalyse(uint8_t *chart, size_t room, size_t *size,
  * Refuses 13, 14, 11. */
 uint16_t control_chart_correct(uint8_t *chart, size_t room, size_t *size);
 
-/* A new base from the last 15 words of the base followed by the series, by rejection as in building; the series is empty then, so the form
- * gets shorter or stays as long. *size, *rounds and *removed as in building.
+/* A new base from the last 15 words of the base followed by the series, by rejection as in building. The series is then empty, and the form
+ * is not longer than before. *size, *rounds and *removed as in building.
  * Refuses 13, 14, 8, 12. */
 uint16_t control_chart_renew(uint8_t *chart, size_t room, size_t *size,
                              size_t *rounds, size_t *removed);
 
-/* The lines for a plotter, in hundredths of a percent as words are, each a whole number of 256ths: an upper limit rounded down, a lower one
- * up, the mean down. A kind 1 chart has three: mean, upper warning limit, upper control limit (its lower line is always 0). The others have
- * five: mean, lower warning, upper warning, lower control, upper control limit. They go to the front of `lines`, which has room for `room`
- * doubles; *count: how many. Doubles behind them stay as they are.
+/* The lines for a plotter, in hundredths of a percent as words are. Each is a whole number of 256ths: an upper limit rounded down, a lower
+ * limit up, the mean down. A kind 1 chart has three: mean, upper warning limit, upper control limit (its lower line is always 0). The others
+ * have five: mean, lower warning, upper warning, lower control, upper control limit. They go to the front of `lines`, which has room for
+ * `room` doubles; *count: how many. Doubles behind them stay as they are.
  * Refuses 13, 14, 15. */
 uint16_t control_chart_lines(const uint8_t *chart, size_t size,
                              double *lines, size_t room, size_t *count);
@@ -136,7 +152,15 @@ uint16_t control_chart_against_lines(const uint8_t *chart, size_t size, int32_t 
  * Refuses 13, 14. */
 uint16_t control_chart_check(const uint8_t *chart, size_t size);
 
-/* THE STORED FORM, for whoever wants to read a chart. Every number has two bytes, the lower first; words are in two's complement. The
+/* The text of an answer, of a verdict, and of the version, CONTROL_CHART_VERSION of the library that is linked. The text goes to the front
+ * of `text`, with a 0 byte behind it; `room` is the number of bytes of `text`. Bytes behind the 0 byte stay as they are. A number that is
+ * no answer has the text "no such number", one that is no verdict "no such verdict".
+ * Each refuses 15, where `room` is not more than the text's length. */
+uint16_t control_chart_refusal_text(uint32_t number, char *text, size_t room);
+uint16_t control_chart_verdict_text(uint32_t verdict, char *text, size_t room);
+uint16_t control_chart_version(char *text, size_t room);
+
+/* THE STORED FORM, for readers of a chart. Every number has two bytes, the lower first; words are in two's complement. The
  * lengths count the bytes after themselves.
  *
  *     bytes 0..9     8; 1; kind; status (0 free, 1 a reanalysis is due, 2 a correction is due); open verdict (0 when free)

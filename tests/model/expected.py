@@ -1,4 +1,4 @@
-"""Writes every expected file of the repository from the model, or compares those files with what stands there.
+"""Writes every expected file of the repository from the model, or compares those files with the files there.
 
 python3 tests/model/expected.py             writes them
 python3 tests/model/expected.py --check     writes nothing, names each file that differs, and then ends with 1
@@ -9,9 +9,10 @@ import sys
 
 import make_calls
 import make_cases
+import make_day
 import make_vectors
 
-MAKERS = (make_vectors, make_cases, make_calls)
+MAKERS = (make_vectors, make_cases, make_calls, make_day)
 ROOT = os.path.join(os.path.dirname(os.path.abspath(__file__)), "..", "..")
 
 # Of a long line so many bytes are shown, and so many of them before the first that differs.

@@ -256,7 +256,7 @@ def cases():
 
 
 def outcome(held, line):
-    """What is met by a case, in a few words."""
+    """The outcome of a case, in short."""
     _, answer, status, is_error = on_file(held, line)
     if is_error:
         return "%s: %s" % ("a missing file" if held is None else "a file", answer.split(b";")[0].decode())

@@ -1,5 +1,5 @@
 """Calls beyond the commands, answered by the model: chart values with all their places, lent buffers, a word against
-the lines, whole lists of calls, and the functions for C.
+the lines, whole lists of calls, the functions for C, and their texts.
 
 Written from document 01, from its readings and from the description in include/control_chart.h. As in the model, a
 refused call raises Refused; what was handed in or lent then still holds.
@@ -10,7 +10,7 @@ from collections import namedtuple
 import model
 from model import Chart, Refused
 
-# Forms in the code: a chart value has 32 places for the base and 366 for the series, and tells how many are used.
+# Forms in the code: a chart value has 32 places for the base and 366 for the series, and says how many are used.
 ChartValue = namedtuple("ChartValue", "kind base base_len series series_len status verdict")
 
 
@@ -151,8 +151,71 @@ def word(kind, a, b, c):
     return model.word_alone(*reading(kind, a, b, c))
 
 
+# The header and docs/REFUSALS.md: the text of each answer.
+REFUSAL_TEXTS = {
+    0: "done",
+    1: "the kind is not 1, 2 or 3",
+    2: "there are not 15 to 32 words",
+    3: "a word of the base is out of range",
+    4: "the reading is of another kind than the chart",
+    5: "a reading is not in 0..1000000000",
+    6: "the divisor is 0",
+    7: "the word is out of range",
+    8: "a reanalysis or a correction is due",
+    9: "the series is full: it has 366 words",
+    10: "no reanalysis is due",
+    11: "no correction is due",
+    12: "base and series have fewer than 15 words",
+    13: "the bytes are not a stored form",
+    14: "there is no chart, or it is not sound",
+    15: "the buffer is too short",
+}
+NO_SUCH_NUMBER = "no such number"
+
+# The header: the text of each verdict.
+VERDICT_TEXTS = {
+    0: "none",
+    1: "beyond a control limit",
+    2: "two in a row beyond the warning limit on one side",
+    3: "seven in a row rising or falling",
+    4: "seven in a row on one side of the mean",
+}
+NO_SUCH_VERDICT = "no such verdict"
+
+# The header: CONTROL_CHART_VERSION, and CONTROL_CHART_TEXT_MOST, which is room for every text with its 0 byte.
+VERSION = "1.0.0"
+TEXT_MOST = 64
+
+
+def within(text, room):
+    """The header: the text, where the room holds it with its 0 byte. Refusal 15."""
+    if held(room, 0, SIZE_MOST) < len(text) + 1:
+        raise Refused(15)
+    return text
+
+
+def refusal_text(number, room):
+    """control_chart_refusal_text: the text. The number is uint32_t and is not cut to 16 bits. Refusal 15."""
+    return within(REFUSAL_TEXTS.get(held(number, 0, 2 ** 32 - 1), NO_SUCH_NUMBER), room)
+
+
+def verdict_text(number, room):
+    """control_chart_verdict_text: the text. The number is uint32_t and is not cut to 16 bits. Refusal 15."""
+    return within(VERDICT_TEXTS.get(held(number, 0, 2 ** 32 - 1), NO_SUCH_VERDICT), room)
+
+
+def version(room):
+    """control_chart_version: the version. Refusal 15."""
+    return within(VERSION, room)
+
+
+# The header: CONTROL_CHART_FORM_MOST, the bytes of the longest form, and CONTROL_CHART_LINES_MOST.
+FORM_MOST = 10 + (4 + 2 * model.BASE_MOST) + (4 + 2 * model.SERIES_MOST)
+LINES_MOST = 5
+
+
 class LentChart:
-    """The header: lent bytes with a form at their front, the size of the form, and the room that the calls are told.
+    """The header: lent bytes with a form at their front, the size of the form, and the room that the calls take.
 
     Every call works on the chart that the bytes hold.
     """

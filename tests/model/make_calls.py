@@ -2,8 +2,8 @@
 
 python3 make_calls.py > calls
 
-calls_asked.txt is the made file without what stands after `=` and without the bytes after `form`; its head tells what
-each line is. Comments and empty lines are kept. Each call is worked out on the bytes that the clients then lend.
+calls_asked.txt is the made file without the answers behind `=` and without the bytes behind `form`. Its head describes
+each line. Comments and empty lines are kept. Each call is worked out on the bytes that the clients then lend.
 """
 
 import os
@@ -25,6 +25,13 @@ FILL = 0x77
 # The clients: the calls that the line `all` stands for.
 CALLS_ON_A_CHART = ("post 2 10000 10000 0", "reanalyse 2 10000 10000 0", "correct", "renew", "lines 6",
                     "against_lines 10000 6", "check")
+
+# The calls that work on no chart.
+WITHOUT_CHART = {"word": interface.word, "refusal_text": interface.refusal_text,
+                 "verdict_text": interface.verdict_text, "version": interface.version}
+
+# The calls that work on the lent chart.
+ON_A_CHART = ("build", "post", "reanalyse", "correct", "renew", "lines", "against_lines", "check")
 
 
 def numbers_of(text):
@@ -81,13 +88,16 @@ class Calls:
         try:
             if name == "build":
                 (kind, room), words = given
-                numbers = self.lent.build(kind, room, words)
+                outputs = self.lent.build(kind, room, words)
+            elif name in WITHOUT_CHART:
+                (fields,) = given
+                outputs = (WITHOUT_CHART[name](*fields),)
             else:
                 (fields,) = given
-                numbers = (interface.word(*fields),) if name == "word" else getattr(self.lent, name)(*fields)
+                outputs = getattr(self.lent, name)(*fields)
         except Refused as refused:
             return str(refused.number)
-        text = " ".join(map(str, (0,) + tuple(numbers)))
+        text = " ".join(map(str, (0,) + tuple(outputs)))
         if name in ("build", "renew"):
             text += " / " + in_runs(self.lent.read().base)
         return text
@@ -115,7 +125,7 @@ class Calls:
         if name == "all":
             asked = [call.partition(" ") for call in CALLS_ON_A_CHART]
             answers = [self.answer(call, numbers_of(numbers)) for call, _, numbers in asked]
-        elif name in ("word", "build", "post", "reanalyse", "correct", "renew", "lines", "against_lines", "check"):
+        elif name in WITHOUT_CHART or name in ON_A_CHART:
             if name == "build":
                 self.lent = lend(b"")
                 self.lent.size = int.from_bytes([FILL] * 8, "little")

@@ -150,7 +150,7 @@ def against_lines(label, chart, word):
 
 
 def lines_text(chart):
-    """The lines of a chart, as the command `lines` tells them."""
+    """The lines of a chart, as the command `lines` answers them."""
     try:
         return "lines " + " ".join(map(commands.decimal, model.lines(chart)))
     except Refused as refused:

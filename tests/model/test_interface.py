@@ -3,6 +3,10 @@
 python3 test_interface.py
 """
 
+import os
+import re
+
+import expected
 import interface
 import make_calls
 import make_cases
@@ -17,6 +21,34 @@ K = (900,) * 7 + (1100,) * 7 + (1000,)
 
 # The stored form of a fresh A, by hand: ac 26 is 9900, 74 27 is 10100, 10 27 is 10000.
 A_FORM = bytes.fromhex("0800 0100 0200 0000 0000 2000 0200" + "ac26" * 7 + "7427" * 7 + "1027" + "0200 0300")
+
+# The texts, by hand from their description: of the answers 0 to 15, of the verdicts 0 to 4, and of other numbers.
+ANSWERS = """\
+done
+the kind is not 1, 2 or 3
+there are not 15 to 32 words
+a word of the base is out of range
+the reading is of another kind than the chart
+a reading is not in 0..1000000000
+the divisor is 0
+the word is out of range
+a reanalysis or a correction is due
+the series is full: it has 366 words
+no reanalysis is due
+no correction is due
+base and series have fewer than 15 words
+the bytes are not a stored form
+there is no chart, or it is not sound
+the buffer is too short
+""".splitlines()
+VERDICTS = """\
+none
+beyond a control limit
+two in a row beyond the warning limit on one side
+seven in a row rising or falling
+seven in a row on one side of the mean
+""".splitlines()
+OTHER_NUMBER, OTHER_VERDICT = "no such number", "no such verdict"
 
 PASSED = 0
 
@@ -287,8 +319,82 @@ def test_calls_for_c():
     same(is_no_input(lent_chart(A_FORM).against_lines, 2 ** 31, 4), True)
 
 
+def text_of(texts, other, number):
+    """The text of a number, by hand."""
+    return texts[number] if number < len(texts) else other
+
+
+def test_texts():
+    """The header: the text of every answer and of every verdict, the version, and the room that each needs."""
+    same((len(ANSWERS), len(VERDICTS)), (16, 5))
+    numbers = (*range(18), 255, 256, 264, 65535, 65536, 65537, 65544, 2 ** 31 + 8, 2 ** 32 - 1)
+    for function, texts, other in ((interface.refusal_text, ANSWERS, OTHER_NUMBER),
+                                   (interface.verdict_text, VERDICTS, OTHER_VERDICT)):
+        for number in numbers:
+            text = text_of(texts, other, number)
+            for room in (len(text) + 1, len(text) + 2, 64, 2 ** 64 - 1):
+                same((number, room, function(number, room)), (number, room, text))
+            for room in (0, 1, len(text) - 1, len(text)):
+                same((number, room, refusal(function, number, room)), (number, room, 15))
+        for number, room in ((-1, 64), (2 ** 32, 64), (2 ** 32 + 8, 64), (8, -1), (8, 2 ** 64)):
+            same(is_no_input(function, number, room), True)
+    same([interface.version(room) for room in (6, 7, 64)], ["1.0.0"] * 3)
+    same([refusal(interface.version, room) for room in (0, 1, 4, 5, 6)], [15] * 4 + [0])
+    same([is_no_input(interface.version, room) for room in (-1, 2 ** 64)], [True] * 2)
+    # The header has the same version, and the rooms that are enough for everything.
+    with open(os.path.join(expected.ROOT, "include", "control_chart.h"), encoding="ascii") as file:
+        header = file.read()
+    same(re.findall(r'(?m)^#define CONTROL_CHART_VERSION "(.*)"$', header), ["1.0.0"])
+    same((interface.TEXT_MOST, interface.FORM_MOST, interface.LINES_MOST), (64, 814, 5))
+    same(max(len(text) for text in ANSWERS + VERDICTS + [OTHER_NUMBER, OTHER_VERDICT]) < 64, True)
+
+
+def test_made_texts():
+    """The calls for texts: how a line gives its text, and that the asked lines meet every text at its edges."""
+    for asked, wanted in (
+            ("refusal_text 8 64", "refusal_text 8 64 = 0 a reanalysis or a correction is due"),
+            ("refusal_text 65544 64", "refusal_text 65544 64 = 0 no such number"),
+            ("refusal_text 0 5", "refusal_text 0 5 = 0 done"), ("refusal_text 0 4", "refusal_text 0 4 = 15"),
+            ("verdict_text 4 39", "verdict_text 4 39 = 0 seven in a row on one side of the mean"),
+            ("verdict_text 4 38", "verdict_text 4 38 = 15"),
+            ("verdict_text 65537 64", "verdict_text 65537 64 = 0 no such verdict"),
+            ("version 6", "version 6 = 0 1.0.0"), ("version 5", "version 5 = 15"),
+            # A text changes nothing in the lent chart.
+            ("chart 1 0 0 / 10*0 /\nversion 64\ncheck", "chart 1 0 0 / 10*0 /\nversion 64 = 0 1.0.0\ncheck = 0")):
+        same(make_calls.made(asked), wanted)
+    for asked in ("refusal_text 4294967296 64", "verdict_text -1 64", "version -1", "version 6 / 6", "texts 1 64"):
+        same(is_no_input(make_calls.made, asked), True)
+    made = make_calls.files()[make_calls.PATH].decode("ascii").split("\n")
+    for name, texts, other, others in (
+            ("refusal_text", ANSWERS, OTHER_NUMBER, (16, 255, 65535, 65536, 65544, 2 ** 32 - 1)),
+            ("verdict_text", VERDICTS, OTHER_VERDICT, (5, 65537, 2 ** 32 - 1))):
+        numbers = (*range(len(texts)), *others)
+        wanted = [(number, 64) for number in numbers]
+        for number in range(len(texts) + 1):
+            length = len(text_of(texts, other, number))
+            wanted += [(number, length + 1), (number, length)]
+        wanted += [(number, room) for number in (0, 4, others[0], others[-1]) for room in (0, 1)]
+        lines = [line for line in made if line.startswith(name + " ")]
+        asked = [tuple(map(int, line.split()[1:3])) for line in lines]
+        same([pair for pair in wanted if asked.count(pair) != 1], [])
+        for (number, room), line in zip(asked, lines):
+            text = text_of(texts, other, number)
+            answer = "0 " + text if room > len(text) else "15"
+            same(line, "%s %d %d = %s" % (name, number, room, answer))
+    same([line for line in made if line.startswith("version")],
+         ["version 64 = 0 1.0.0", "version 6 = 0 1.0.0", "version 5 = 15", "version 1 = 15", "version 0 = 15"])
+    # They stand in a section of their own, behind all other calls, and the head has a line for each of them.
+    start = made.index("# ---- Texts refuse 15")
+    names = {line.split()[0] for line in made[start:] if line and not line.startswith("#")}
+    same(names, {"refusal_text", "verdict_text", "version"})
+    same([line for line in made[:start] if line.split()[:1] and line.split()[0] in names], [])
+    head = made[:made.index("")]
+    for line in ("refusal_text NUMBER ROOM", "verdict_text NUMBER ROOM", "version ROOM"):
+        same(sum(part.startswith("#     %s = ANSWER TEXT " % line) for part in head), 1)
+
+
 def test_made_calls():
-    """The lines of the calls: what is kept, what is worked out from the lent bytes, and its spelling."""
+    """The lines of the calls: the parts that are kept, the answers from the lent bytes, and their spelling."""
     a = "7*9900 7*10100 10000"
     for asked, wanted in (
             ("# x = 5\n\n", "# x = 5\n\n"),
@@ -351,7 +457,8 @@ def test_made_cases():
 
 def main():
     for test in (test_charts_handed_in, test_calls_on_values, test_refused_starts, test_writing, test_against_lines,
-                 test_lists, test_order_for_c, test_calls_for_c, test_made_calls, test_made_cases):
+                 test_lists, test_order_for_c, test_calls_for_c, test_texts, test_made_texts, test_made_calls,
+                 test_made_cases):
         test()
     print("%d passed, 0 failed" % PASSED)
 

@@ -3,7 +3,7 @@
 python3 test_model.py
 
 The numbers here are written by hand from document 01, its readings and the descriptions of the commands and of charts
-in files, so that a wrong model is told.
+in files, so that a wrong model fails here.
 """
 
 import io
@@ -14,11 +14,13 @@ from contextlib import redirect_stderr, redirect_stdout
 from functools import lru_cache
 
 import expected
+import make_day
 import make_vectors
 import model
 from commands import answers_of, command_of, lines_of, status, status_of, step, steps_of
 from files import cases as file_cases, may_change, on_file
 from model import Chart
+from transcript import Session
 
 A = (9900,) * 7 + (10100,) * 7 + (10000,)
 B = (1000,) * 14
@@ -230,6 +232,51 @@ READINGS = {
     28: {"W, lines": "lines 0.00000000 -40640.03906250 40640.03906250 -60960.05859375 60960.05859375"},
     32: {"A, posts 10301": "word 10301 verdict 1", "1000 fourteen times and 2000, posts 1001": "word 1001 verdict 1"},
 }
+
+# A day with a chart in a file: the readings behind post and reanalyse are found, made up, and 0. `# 1` is the status.
+DAY_IN_FILE = """\
+build 2 9900 9900 9900 9900 9900 9900 9900 10100 10100 10100 10100 10100 10100 10100 10000
+built rounds 1 removed 0
+# 0
+lines
+lines 10000.00000000 9800.00000000 10200.00000000 9700.00000000 10300.00000000
+# 0
+post 2 1002 1000 0
+word 10020 verdict 0
+# 0
+post 2 1025 1000 0
+word 10250 verdict 0
+# 0
+post 2 1031 1000 0
+word 10310 verdict 1
+# 1
+post 2 1001 1000 0
+refused 8
+# 2
+reanalyse 2 1030 1000 0
+word 10300 passed
+# 0
+show
+chart kind 2 status 0 verdict 0 base 15 {A} series 3 10020 10250 10300
+# 0
+"""
+
+# The same day, as the examples print it with the texts.
+DAY = b"""\
+word 9900
+built rounds 1 removed 0
+lines 10000.00000000 9800.00000000 10200.00000000 9700.00000000 10300.00000000
+word 10020 verdict 0: none
+word 10250 verdict 0: none
+word 10310 verdict 1: beyond a control limit
+refused 8: a reanalysis or a correction is due
+word 10300 passed
+kept 54 bytes
+"""
+
+# The form at the end of the day: 24 27 is 10020, 0a 28 is 10250, 3c 28 is 10300.
+DAY_FORM = bytes.fromhex("0800 0100 0200 0000 0000 2000 0200" + "ac26" * 7 + "7427" * 7 + "1027"
+                         + "0800 0300 2427 0a28 3c28")
 
 PASSED = 0
 
@@ -530,7 +577,7 @@ def test_statuses():
     for line, wanted in ((b"show", 0), (b"lines", 0), (b"word 2 1 1 0", 0), (b"reanalyse 2 1 1 0", 0),
                          (b"reanalyse 2 3 1 0", 2), (b"reanalyse 2 10301 10000 0", 1), (b"", 0)):
         same(step(chart, line)[2], wanted)
-    # What happened and what is told agree, on every line of the made files.
+    # The status by what happened and the status by the answer agree, on every line of the made files.
     steps = steps_of(made_files()["crates/control_chart/stdin"])
     same([pair for pair in steps if pair[1] != (status(pair[0]) if pair[0] is not None else 0)], [])
     same({ended for _, ended in steps}, {0, 1, 2, 3})
@@ -712,6 +759,77 @@ def test_examples():
         same(block[label][-1][1].split()[3:7], ["status", str(status), "verdict", str(verdict)])
 
 
+def day_in_file(session, name):
+    """Runs the day on a file of the session."""
+    lines = DAY_IN_FILE.format(A=" ".join(map(str, A))).splitlines()
+    for command, answer, status_line in zip(lines[0::3], lines[1::3], lines[2::3]):
+        same(session.file_command(name, command.split()), answer + "\n")
+        same("# %d" % session.status, status_line)
+
+
+def test_day():
+    """The day of the examples: the made file, and the bytes that they keep."""
+    same(make_day.files(), {"examples/day.txt": DAY})
+    lines, form = make_day.day()
+    same(("".join(line + "\n" for line in lines).encode(), form, len(form)), (DAY, DAY_FORM, 54))
+    # The same day with a chart in a file leaves the same bytes.
+    session = Session()
+    day_in_file(session, "lead.chart")
+    same(session.files, {"lead.chart": DAY_FORM})
+    # Without the texts, the lines are the answers to the same commands.
+    answers = [line for line in DAY_IN_FILE.splitlines() if line.split()[0] in ("built", "lines", "word", "refused")]
+    same([line.partition(":")[0] for line in lines[1:-1]], [line for line in answers if line != "lines"])
+
+
+def test_transcript():
+    """The answers to a transcript: files by their names, standard input, errors about files, the exit status."""
+    session = Session()
+    same((session.files, session.status), ({}, 0))
+    for name, arguments, wanted, status_wanted in (
+            ("lead.chart", ["show"], "error: lead.chart: there is no such file; build makes it\n", 3),
+            ("lead.chart", [], "error: lead.chart: missing command; control_chart help lists the commands\n", 3),
+            ("lead.chart", ["build", "2", "5"], "refused 2\n", 2),
+            ("lead.chart", ["build", "2"] + list(map(str, A)), "built rounds 1 removed 0\n", 0),
+            ("zinc.chart", ["build", "1"] + list(map(str, K)), "built rounds 1 removed 0\n", 0),
+            ("lead.chart", ["post", "2", "10301", "10000", "0"], "word 10301 verdict 1\n", 1),
+            ("lead.chart", ["post 2", "1 1 0"], "refused 8\n", 2),
+            ("zinc.chart", ["post", "1", "5", "5", "0"], "word 0 verdict 0\n", 0),
+            ("zinc.chart", ["post", "2", "5", "5", "0"], "refused 4\n", 2),
+            ("lead.chart", ["x"], "error: unknown command; control_chart help lists the commands\n", 3)):
+        same((session.file_command(name, arguments), session.status), (wanted, status_wanted))
+    zinc = model.stored_form(Chart(1, K, (0,), 0, 0))
+    same(session.files, {"lead.chart": A_OUT, "zinc.chart": zinc})
+    # Standard input has a chart of its own, and no file.
+    for text, wanted, status_wanted in (
+            ("", "", 0), ("# x\n\n", "", 0), ("show\n", "chart kind 0 status 0 verdict 0 base 0 series 0\n", 0),
+            ("word 2 990 1000 0\nword 2 1010 1000 0\n", "word 9900\nword 10100\n", 0),
+            ("word 1 65 63 0\npost 2 1e3 1000 0\n",
+             "word 313\nerror: not a number; numbers are whole and in decimal, as 10250 or -313\n", 3),
+            ("post 2 1 1 0", "refused 14\n", 2)):
+        same((session.input_commands(text), session.status), (wanted, status_wanted))
+    same(session.files, {"lead.chart": A_OUT, "zinc.chart": zinc})
+    # The caller changes files between commands: a copy, a byte cut off, a file removed.
+    session.files["copy"] = session.files["lead.chart"]
+    session.files["lead.chart"] = session.files["lead.chart"][:-1]
+    del session.files["zinc.chart"]
+    same(session.file_command("lead.chart", ["correct"]), "error: lead.chart: %s\n" % REFUSED_13.decode())
+    same(session.file_command("zinc.chart", ["lines"]), "error: zinc.chart: %s\n" % NO_FILE.decode())
+    same(session.file_command("copy", ["reanalyse", "2", "10301", "10000", "0"]), "word 10301 failed\n")
+    same(session.files, {"lead.chart": A_OUT[:-1], "copy": A_OUT[:6] + b"\2" + A_OUT[7:]})
+    # Two sessions do not share their files.
+    same(Session().files, {})
+    day_in_file(session, "another")
+    # A call that is no command on a file gets no answer here.
+    for name, arguments in (("help", []), ("--version", []), ("post", ["2", "1", "1", "0"]), ("", ["show"]),
+                            ("copy", ["show\nshow"])):
+        try:
+            session.file_command(name, arguments)
+            answered = True
+        except ValueError:
+            answered = False
+        same((name, answered), (name, False))
+
+
 def said(function, *given):
     """What a function gives, and what it prints."""
     with redirect_stdout(io.StringIO()) as out, redirect_stderr(io.StringIO()) as errors:
@@ -745,13 +863,14 @@ def test_expected():
     for arguments in (["--chek"], ["--check", "--check"], [""]):
         same(said(expected.main, arguments), (2, "", "usage: python3 tests/model/expected.py [--check]\n"))
     same(sorted(expected.made()), ["crates/cases/stdin", "crates/cases/stdout", "crates/control_chart/stdin",
-                                   "crates/control_chart/stdout", "tests/clients/calls.txt"])
+                                   "crates/control_chart/stdout", "examples/day.txt", "tests/clients/calls.txt"])
 
 
 def main():
     for test in (test_words, test_building, test_verdicts, test_reanalysis, test_order,
                  test_stored_form, test_lines, test_commands, test_ends_and_fronts, test_statuses, test_files,
-                 test_file_cases, test_made, test_block, test_figures, test_examples, test_expected):
+                 test_file_cases, test_made, test_block, test_figures, test_examples, test_day, test_transcript,
+                 test_expected):
         test()
     print("%d passed, 0 failed" % PASSED)
 

@@ -6,3 +6,4 @@ pub mod Kept
 pub mod Building
 pub mod Drawn
 pub mod Room
+pub mod Texts

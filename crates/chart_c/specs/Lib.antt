@@ -3,3 +3,4 @@ pub mod Outcome
 pub mod Forms
 pub mod Calls
 pub mod Plotting
+pub mod Texts

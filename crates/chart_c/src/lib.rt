@@ -6,6 +6,7 @@
 // and a length, a `&mut` number as a pointer.
 mod forms;
 mod plotting;
+mod strings;
 
 use chart::BuildAnswer;
 use chart::Chart;
@@ -24,6 +25,11 @@ use plotting::flag_of;
 use plotting::is_word;
 use plotting::put_beyond;
 use plotting::put_lines;
+use strings::TEXT_MOST;
+use strings::put_string;
+use texts::put_refusal_meaning;
+use texts::put_verdict_meaning;
+use texts::put_version;
 use words::Formed;
 ghost use mathlib.Core.Path.{_≡_};
 ghost use mathlib.Core.Bool.{true};
@@ -34,7 +40,9 @@ ghost use Rattle.chart.specs.Chart.{stateOf};
 ghost use Rattle.chart.specs.Soundness.{soundChart};
 ghost use Rattle.chart_c.specs.Calls.{formedOutcome, builtOutcome, called, reanalysedOutcome};
 ghost use Rattle.chart_c.specs.Calls.{FormsWord, BuildsInto, KeepsNext, Posts, Reanalyses, Renews};
+ghost use Rattle.texts.specs.Texts.{refusalMeaning, verdictMeaning, version};
 ghost use Rattle.chart_c.specs.Plotting.{drawn, Draws, compared, Compares, Checks};
+ghost use Rattle.chart_c.specs.Texts.{PutsText};
 
 // A kind is brought as a number of 32 bits, so that one which sixteen bits do not hold is not cut to a kind on its way here.
 #[no_mangle]
@@ -285,4 +293,32 @@ pub extern "C" fn control_chart_check(chart: &[u8]) -> u16
 {
     let held = held_in(chart);
     held.number
+}
+
+// What a number means, as text. The number has 32 bits, as a kind has: one that sixteen bits do not hold is not cut to a refusal's.
+#[no_mangle]
+pub extern "C" fn control_chart_refusal_text(number: u32, text: &mut [u8]) -> u16
+    ensures { λ r. ⌜ PutsText (refusalMeaning number) (now (text .entry)) (now (text .exit)) r ⌝ }
+{
+    let mut meaning = [0u8; TEXT_MOST];
+    let length = put_refusal_meaning(&mut meaning, number);
+    put_string(&meaning[..length], text)
+}
+
+#[no_mangle]
+pub extern "C" fn control_chart_verdict_text(verdict: u32, text: &mut [u8]) -> u16
+    ensures { λ r. ⌜ PutsText (verdictMeaning verdict) (now (text .entry)) (now (text .exit)) r ⌝ }
+{
+    let mut meaning = [0u8; TEXT_MOST];
+    let length = put_verdict_meaning(&mut meaning, verdict);
+    put_string(&meaning[..length], text)
+}
+
+#[no_mangle]
+pub extern "C" fn control_chart_version(text: &mut [u8]) -> u16
+    ensures { λ r. ⌜ PutsText version (now (text .entry)) (now (text .exit)) r ⌝ }
+{
+    let mut number = [0u8; TEXT_MOST];
+    let length = put_version(&mut number);
+    put_string(&number[..length], text)
 }

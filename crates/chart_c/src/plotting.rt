@@ -91,7 +91,7 @@ pub fn flag_of(holds: bool) -> u8
     if holds { 1 } else { 0 }
 }
 
-fn copy_bytes(bytes: &[u8], buffer: &mut [u8])
+pub fn copy_bytes(bytes: &[u8], buffer: &mut [u8])
     requires { ⌜ length (now bytes) ≤ length (now buffer) ⌝ }
     ensures { λ _. ⌜ now (buffer .exit) ≡ atFront (now (bytes .entry)) (now (buffer .entry)) ⌝ }
 {

@@ -5,7 +5,7 @@ use mathlib.Core.List.{List, [], _∷_}
 use Prim.Native.Nat.{ℕ}
 use Rattle.guide.specs.Choice.{choose}
 use Rattle.parsing.specs.Bytes.{sameBytes}
-use Rattle.replies.specs.Ascii.{ascii}
+use Rattle.printing.specs.Ascii.{ascii}
 use Rattle.commands.specs.declared.names.Name.{Name}
 use Rattle.commands.specs.declared.names.Name.the-variants as name
 use Rattle.commands.specs.Command.{nameIn}

@@ -24,7 +24,7 @@ use Rattle.parsing.specs.Number.{isDigit}
 use Rattle.parsing.specs.Hex.{isLowerHex, isHex, areHex, hexValue, bytesOfHex}
 use Rattle.printing.specs.Hex.{hexDigit, hexOf}
 use Rattle.printing.proofs.HexDigits.{hex-length, hex-figure, hex-letter}
-use Rattle.replies.specs.Ascii.{ascii}
+use Rattle.printing.specs.Ascii.{ascii}
 use Rattle.replies.specs.Texts.{bytesText, readingText}
 use Rattle.commands.specs.Command.{lineMost, asked, readFault, hexFault, faultFor, commandFor, nameIn, namedLine, lineOf, lineIn}
 use Rattle.commands.specs.Command as command

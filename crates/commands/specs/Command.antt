@@ -12,7 +12,7 @@ use Rattle.parsing.specs.Number.{FieldNumber, noNumber, beyond, whole, numberIn
 use Rattle.parsing.specs.Hex.{areHex, bytesOfHex}
 use Rattle.commands.specs.declared.names.Name.{Name}
 use Rattle.commands.specs.declared.names.Name.the-variants as name
-use Rattle.replies.specs.Ascii.{ascii}
+use Rattle.printing.specs.Ascii.{ascii}
 use Rattle.replies.specs.Faults.{unknownCommand, missingNumber, extraNumber, notANumber, numberTooLarge, notAHexDigit}
 use Rattle.replies.specs.Faults.{oddHexDigits, lineTooLong, orElse}
 

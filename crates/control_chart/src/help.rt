@@ -1,10 +1,25 @@
 // What the program takes and answers, and its version.
 use crate::say::failure;
 use crate::say::say;
+use printing::numbers::put_decimal;
+use texts::put_refusal_meaning;
+use texts::put_verdict_meaning;
+use texts::put_version;
 
-// The version stands here and, for C, in include/control_chart.h; `tests/files/run` compares them.
+// Room for any text of `texts`, and for a number.
+const ROOM: usize = 64;
+
+// The last refusal that the program can answer: it lends enough room for every stored form, so 15 never occurs.
+const LAST_REFUSAL: u32 = 14;
+
+const LAST_VERDICT: u32 = 4;
+
 pub fn say_version() -> u8 {
-    ended(say(b"control_chart 1.0.0\n"))
+    let mut version = [0u8; ROOM];
+    let length = put_version(&mut version);
+    say(b"control_chart ");
+    say(&version[..length]);
+    ended(say(b"\n"))
 }
 
 // The exit status after the last of a text.
@@ -85,37 +100,59 @@ fn say_commands() {
 
 fn say_numbers() {
     say(b"Kinds and readings, in the method's smallest digit (0.123 at three decimals is 123):\n");
-    say(b"1 duplicate  A and B are the two results; C is not looked at\n");
-    say(b"2 check      A was found, B was made up; C is not looked at\n");
+    say(b"1 duplicate  A and B are the two results; C is ignored\n");
+    say(b"2 check      A was found, B was made up; C is ignored\n");
     say(b"3 spike      A is the spiked sample, B the unspiked one, C what was added\n\n");
+    say_verdicts();
     say(
-        b"Verdicts: 0 none; 1 beyond a control limit; 2 two in a row beyond the warning limit on one side;\n",
+        b"Verdict 4 is for kinds 2 and 3. After 1, 2 and 3 reanalyse; after 4, and after a failed reanalysis, correct and\n",
     );
+    say(b"then reanalyse.\n");
     say(
-        b"3 seven in a row rising or falling; 4 (kinds 2 and 3) seven in a row on one side of the mean.\n",
+        b"Status: 0 free, 1 a reanalysis is due, 2 a correction is due; show gives it with the open verdict.\n\n",
     );
-    say(
-        b"After 1, 2 and 3 reanalyse; after 4, and after a failed reanalysis, correct and then reanalyse.\n",
-    );
-    say(
-        b"Status: 0 free, 1 a reanalysis is due, 2 a correction is due; show has it with the verdict that is open.\n\n",
-    );
+}
+
+fn say_verdicts() {
+    say(b"verdict V:\n");
+    let mut verdict: u32 = 0;
+    while verdict <= LAST_VERDICT {
+        say_verdict(verdict);
+        verdict += 1;
+    }
+}
+
+fn say_verdict(verdict: u32) {
+    let mut meaning = [0u8; ROOM];
+    let length = put_verdict_meaning(&mut meaning, verdict);
+    say_meaning(verdict, &meaning[..length]);
 }
 
 fn say_refusals() {
     say(b"refused N:\n");
-    say(b" 1  the kind is not 1, 2 or 3\n");
-    say(b" 2  not 15 to 32 words\n");
-    say(b" 3  a word out of the kind's range\n");
-    say(b" 4  a reading of another kind than the chart\n");
-    say(b" 5  a reading not in 0..1000000000\n");
-    say(b" 6  the divisor is 0: there is no word\n");
-    say(b" 7  the word is out of range: check the readings\n");
-    say(b" 8  reanalyse (status 1) or correct (status 2) first\n");
-    say(b" 9  the series is full (366 words): renew\n");
-    say(b"10  no reanalysis is due\n");
-    say(b"11  no correction is due\n");
-    say(b"12  base and series have fewer than 15 words: post more first\n");
-    say(b"13  not a stored form\n");
-    say(b"14  no chart yet, or a chart that is not sound: build or read one\n\n");
+    let mut number: u32 = 1;
+    while number <= LAST_REFUSAL {
+        say_refusal(number);
+        number += 1;
+    }
+    say(b"\n");
+}
+
+fn say_refusal(number: u32) {
+    let mut meaning = [0u8; ROOM];
+    let length = put_refusal_meaning(&mut meaning, number);
+    say_meaning(number, &meaning[..length]);
+}
+
+// A line: the number, in two columns, and what it means.
+fn say_meaning(number: u32, meaning: &[u8]) {
+    let mut digits = [0u8; ROOM];
+    let length = put_decimal(&mut digits, 0, number as u64);
+    if number < 10 {
+        say(b" ");
+    }
+    say(&digits[..length]);
+    say(b"  ");
+    say(meaning);
+    say(b"\n");
 }

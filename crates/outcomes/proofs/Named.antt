@@ -16,7 +16,7 @@ use Rattle.chart.specs.declared.Chart.{Chart}
 use Rattle.parsing.specs.Bytes.{sameBytes}
 use Rattle.parsing.specs.Fields.{fieldsOf, IsFirstField}
 use Rattle.parsing.proofs.Tests.{same-equal}
-use Rattle.replies.specs.Ascii.{ascii}
+use Rattle.printing.specs.Ascii.{ascii}
 use Rattle.replies.specs.Faults.{lineTooLong}
 use Rattle.commands.specs.declared.names.Name.{Name}
 use Rattle.commands.specs.declared.names.Name.the-variants as name

@@ -39,7 +39,7 @@ use Rattle.parsing.proofs.Tests.{same-itself}
 use Rattle.parsing.proofs.FrontEnd.{ends-joined, ends-behind, ends-unlike}
 use Rattle.printing.specs.Decimal.{decimal, signedDecimal, digit}
 use Rattle.printing.proofs.Digits.{decimal-small, decimal-more}
-use Rattle.replies.specs.Ascii.{ascii}
+use Rattle.printing.specs.Ascii.{ascii}
 use Rattle.replies.specs.Faults.{faultText}
 use Rattle.replies.specs.Texts.{refusalText, wordText, formedText, buildingText, answerText, linesText, bytesText, readingText, stateText}
 use Rattle.commands.specs.Command.{Command, Line}

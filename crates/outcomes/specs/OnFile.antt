@@ -15,7 +15,7 @@ use Rattle.chart.specs.Chart.{stateOf, chartOf, zeroChart}
 use Rattle.chart.specs.Soundness.{soundChart}
 use Rattle.parsing.specs.Bytes.{sameBytes, PutInFront}
 use Rattle.printing.specs.Output.{Puts}
-use Rattle.replies.specs.Ascii.{ascii}
+use Rattle.printing.specs.Ascii.{ascii}
 use Rattle.commands.specs.Command.{lineIn, isBuild}
 use Rattle.commands.specs.Reply.{chartAfterLine, answerToLine, answerMost}
 use Rattle.outcomes.specs.declared.Outcome.{Outcome}

@@ -20,7 +20,7 @@ use Rattle.chart.specs.Calls.{answerTo}
 use Rattle.chart.specs.Soundness.{soundChart}
 use Rattle.lines.specs.Lines.{answerToLines}
 use Rattle.parsing.specs.Text.{begins, ends}
-use Rattle.replies.specs.Ascii.{ascii}
+use Rattle.printing.specs.Ascii.{ascii}
 use Rattle.commands.specs.Command.{Command, Line}
 use Rattle.commands.specs.Command as command
 

@@ -25,7 +25,7 @@ use Rattle.lines.proofs.PartsHeld.{held-small}
 use Rattle.printing.specs.Decimal.{decimal}
 use Rattle.printing.proofs.Digits.{decimal-length, signed-length, spaced-words-length, parts-length}
 use Rattle.printing.proofs.HexDigits.{hex-length}
-use Rattle.replies.specs.Ascii.{ascii}
+use Rattle.printing.specs.Ascii.{ascii}
 use Rattle.replies.specs.Faults.{faultText}
 use Rattle.replies.specs.Texts.{refusalText, wordText, roundsText, outcomeText, formedText, buildingText, answerText}
 use Rattle.replies.specs.Texts.{readingText, chartLineText, linesText, bytesText, listText, stateText}

@@ -2,7 +2,7 @@
 use mathlib.Core.Path.{_≡_}
 use Prim.Native.Nat.{ℕ}
 use borrow.Author.Tests.{ne-eqb}
-use Rattle.replies.specs.Ascii.{ascii}
+use Rattle.printing.specs.Ascii.{ascii}
 use Rattle.replies.specs.Faults.{faultText}
 
 -- n is none of 1 to 7, as the last arm of a match has it

@@ -3,7 +3,7 @@ use mathlib.Core.List.{List}
 use Prim.Native.Nat.{ℕ, zero, suc}
 use lib.Dec.{eqb}
 use Rattle.guide.specs.Choice.{choose}
-use Rattle.replies.specs.Ascii.{ascii}
+use Rattle.printing.specs.Ascii.{ascii}
 
 abbrev pub unknownCommand : ℕ
 unknownCommand = 1

@@ -19,7 +19,7 @@ use Rattle.lines.specs.declared.TwoSidedLines.{TwoSidedLines}
 use Rattle.lines.specs.Lines.{partsHeld}
 use Rattle.printing.specs.Decimal.{decimal, signedDecimal, spacedWords, partsDecimal}
 use Rattle.printing.specs.Hex.{hexOf}
-use Rattle.replies.specs.Ascii.{ascii}
+use Rattle.printing.specs.Ascii.{ascii}
 
 -- a name, and a number
 abbrev pub namedText : List ℕ → ℕ → List ℕ

@@ -4,7 +4,7 @@ use mathlib.Core.List.{List}
 use Prim.Native.Nat.{ℕ}
 use borrow.Author.Needs.{needs}
 use Rattle.parsing.specs.Bytes.{sameBytes}
-use Rattle.replies.specs.Ascii.{ascii}
+use Rattle.printing.specs.Ascii.{ascii}
 use Rattle.commands.specs.Command.{isBuild}
 use Rattle.commands.proofs.Fields.{first-field-is}
 use Rattle.commands.proofs.is_build.Statement.{statement}

@@ -4,7 +4,7 @@ use mathlib.Core.Bool.{false}
 use borrow.Author.Needs.{needs}
 use denote.Ref.{now}
 use Rattle.parsing.specs.Text.{begins}
-use Rattle.replies.specs.Ascii.{ascii}
+use Rattle.printing.specs.Ascii.{ascii}
 use Rattle.outcomes.specs.Status.{statusOf}
 use Rattle.outcomes.proofs.status.exit_status.Statement.{statement}
 use Rattle.outcomes.proofs.status.exit_status.Tie as tie
