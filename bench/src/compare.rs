@@ -1,11 +1,11 @@
-//! Random calls on both engines with the same inputs. Everything lent is compared after each call, so a byte that one engine leaves and
-//! the other changes is a difference, also where both refuse.
+//! Random calls on both engines with the same inputs. Everything lent is compared after each call, so a byte that only one engine changes
+//! is a difference, also if both refuse.
 
 use crate::engines::{form, Engine, Plain, Proved, FORM_MOST};
 
 const NAMES: [&str; 9] = ["word", "build", "post", "reanalyse", "correct", "renew", "lines", "against_lines", "check"];
 
-/// What the header says that each call can answer.
+/// What each call can answer, by the header.
 const ANSWERS: [&[usize]; 9] = [
     &[0, 1, 5, 6, 7],
     &[0, 1, 2, 3, 15],
@@ -63,7 +63,7 @@ impl Call {
     fn make<E: Engine>(&self, lent: &mut Lent) -> u16 {
         let chart = &mut lent.chart[..lent.room];
         let (size, word) = (&mut lent.size, &mut lent.word);
-        // The calls that only read take a form without a buffer around it.
+        // The calls that only read take the bytes of the form, without the buffer around it.
         let front = lent.room.min(*size);
         match *self {
             Call::Word(Reading { kind, a, b, c }) => E::word(kind, a, b, c, word),
@@ -194,13 +194,13 @@ impl View {
     }
 }
 
-/// Words in turn above and below a centre, the last of an odd count on it. S of an odd count is the spread itself, so that words can lie
+/// Words in turn above and below a centre; of an odd count the last is the centre. Then S is the spread itself, so that words can lie
 /// exactly on the limits.
 fn balanced(centre: i64, spread: i64, n: usize) -> Vec<i64> {
     (0..n).map(|i| if i == n - 1 && i % 2 == 0 { centre } else { centre + [spread, -spread][i % 2] }).collect()
 }
 
-/// What the posts of a while aim at, so that every verdict occurs.
+/// What the posts aim at for a while, so that every verdict occurs.
 #[derive(Clone, Copy)]
 enum Aim {
     Calm,
@@ -407,7 +407,7 @@ impl Comparison {
             Aim::Run(way) => {
                 let step = 1 + random.within(0, (view.s / 5.0) as i64);
                 match view.series.last() {
-                    // A kind 1 chart has no lower limit, so a run has space there even where S is 0.
+                    // A kind 1 chart has no lower limit, so a run has space there even if S is 0.
                     _ if view.kind() == 1 && random.one_in(12) => random.within(0, view.mean as i64),
                     Some(&last) if (f64::from(last) - view.mean) * (way as f64) < 2.0 * view.s => i64::from(last) + way * step,
                     Some(&last) if view.kind() == 1 && way < 0 => i64::from(last) - step,
@@ -514,12 +514,12 @@ impl Comparison {
         self.call(Call::AgainstLines { word })
     }
 
-    /// A number of the form changed, by its place in two-byte steps.
+    /// Changes a number of the form. Its place is counted in steps of two bytes.
     fn put(&mut self, at: usize, number: u16) {
         self.lent.chart[2 * at..2 * at + 2].copy_from_slice(&number.to_le_bytes());
     }
 
-    /// Damages the form, in ways that are found and in ways that leave another sound chart.
+    /// Damages the form: in ways that are refused, and in ways that give another sound chart.
     fn damage(&mut self, view: &View) {
         let size = self.lent.size;
         let series_at = 7 + view.base.len();
@@ -529,7 +529,7 @@ impl Comparison {
             2 => self.lent.size -= self.random.pick(&[1, 2, 3, 4, size / 2, size]),
             3 => self.lent.size = (size + self.random.index(1, 4)).min(self.lent.room),
             4 => {
-                // The buffer ends where the form ends or later, the size says more.
+                // The buffer ends at the end of the form or later, and the size is greater than the buffer.
                 let room = size + self.random.pick(&[0, 0, 1, 2]);
                 self.set_room(room);
                 self.lent.size = room.saturating_add(self.random.pick(&[1, 2, 65_536, usize::MAX]));
@@ -537,7 +537,7 @@ impl Comparison {
             5 => {
                 let (at, length) = self.random.pick(&[(0, 8), (5, 2 * view.base.len() + 2), (series_at, 2 * view.series.len() + 2)]);
                 if self.random.one_in(3) {
-                    // A byte more at the end of the record, and its length counts it.
+                    // One byte more at the end of the record. The record's length counts it.
                     self.put(at, length as u16 + 1);
                     let mut bytes = self.lent.chart[..size].to_vec();
                     bytes.insert(2 * at + 2 + length, 0);
@@ -591,7 +591,7 @@ impl Comparison {
                 self.set_form(&form(view.head, &view.base, &series));
             }
             _ => {
-                // A status and a verdict for the series as it stands: sound where the verdict is the one of the last word.
+                // A status and a verdict for the series as it is: sound if the verdict is that of the last word.
                 let head = [view.head[0], self.random.pick(&[1, 2]), self.random.pick(&[1, 2, 3, 4])];
                 self.set_form(&form(head, &view.base, &view.series));
             }
@@ -707,7 +707,7 @@ impl Comparison {
         println!("the longest series after a post: {} words", self.longest_series);
     }
 
-    /// What should have occurred and did not.
+    /// What should have occurred and did not, and answers that the header does not have.
     fn missing(&self) -> Vec<String> {
         let mut missing = Vec::new();
         for (name, (answers, expected)) in NAMES.iter().zip(self.answers.iter().zip(ANSWERS)) {

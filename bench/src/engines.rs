@@ -1,4 +1,5 @@
-//! The two engines behind one set of nine calls, those of include/control_chart.h with slices in place of pointers and lengths.
+//! The two engines behind one set of nine calls. These are the calls of include/control_chart.h, without those for texts, and with slices
+//! in place of pointers and lengths.
 
 #![allow(clippy::too_many_arguments)]
 
@@ -19,7 +20,7 @@ pub trait Engine {
     fn check(chart: &[u8]) -> u16;
 }
 
-/// The plain engine. Its calls are kept out of line, since those of a library cannot be inlined into their caller either.
+/// The plain engine. Its calls are not inlined, because the calls of a library cannot be inlined into their caller either.
 pub struct Plain;
 
 impl Engine for Plain {
@@ -80,8 +81,8 @@ extern "C" {
     fn control_chart_check(chart: *const u8, size: usize) -> u16;
 }
 
-/// Each call is safe because slices and references give the header what it asks of pointers: not null, aligned, and memory that is lent
-/// for writing overlaps nothing else that is lent.
+/// Each call is safe, because slices and references have what the header requires of pointers: they are not null, they are aligned, and
+/// memory that is lent for writing overlaps nothing else that is lent.
 impl Engine for Proved {
     fn word(kind: u32, a: i64, b: i64, c: i64, word: &mut i16) -> u16 {
         unsafe { control_chart_word(kind, a, b, c, word) }

@@ -1,8 +1,7 @@
 //! Control charts for duplicate, check and spike results, in plain Rust.
 //!
-//! Written from the paper and from include/control_chart.h alone, to be compared with the proved library call by call and to be measured
-//! beside it. A chart is always in its stored form. Every call reads the form once, which checks it, and changes only the bytes that the
-//! call changes.
+//! It follows only the paper and include/control_chart.h. It is compared with the proved library call by call, and measured beside it. A
+//! chart is always in its stored form. Every call reads the form once, which checks it, and writes only the bytes that the call changes.
 
 use std::cmp::Ordering;
 use std::ops::RangeInclusive;
@@ -20,14 +19,14 @@ const CONTROL: i64 = 3;
 /// Lines are whole numbers of 256ths.
 const LINE_SCALE: i64 = 256;
 
-/// The run of words that verdicts 3 and 4 look at.
+/// The number of words in a run, for verdicts 3 and 4.
 const RUN: usize = 7;
 
 const FREE: u16 = 0;
 const REANALYSIS_DUE: u16 = 1;
 const CORRECTION_DUE: u16 = 2;
 
-/// Where the parts of the stored form stand.
+/// The places of the parts of the stored form.
 const STATUS_AT: usize = 6;
 const VERDICT_AT: usize = 8;
 const BASE_AT: usize = 14;
@@ -173,8 +172,8 @@ impl Limits {
     }
 
     /// The lines of the lower and the upper limit: the least multiple of 1/256 not below the one, the greatest not above the other.
-    /// With e the greatest whole number that is at most 256 n m S, k is right for the upper line just where k n - 256 T <= e, since the
-    /// left side is whole. The square stays below 2^63 for every base.
+    /// Let e be the greatest whole number not above 256 n m S. Then k / 256 is not above the upper limit exactly if k n - 256 T <= e,
+    /// because the left side is whole. The square stays below 2^63 for every base.
     fn limit_lines(&self, m: i64) -> (f64, f64) {
         let e = (LINE_SCALE * LINE_SCALE * m * m * self.n * self.v / (self.n - 1)).isqrt();
         let mean = LINE_SCALE * self.t;
@@ -232,7 +231,7 @@ impl<'a> Chart<'a> {
         }
     }
 
-    /// Whether words are in range and within the control limits: all are where the least and the greatest are.
+    /// Whether the words are in range and within the control limits. All of them are, if the least and the greatest are.
     fn holds(&self, stored: &[Stored]) -> bool {
         let (least, greatest) = words(stored).fold((i16::MAX, i16::MIN), |(least, greatest), w| (least.min(w), greatest.max(w)));
         let range = self.kind.words();
@@ -301,7 +300,7 @@ fn put_state(chart: &mut [u8], status: u16, verdict: u16) {
     put(chart, VERDICT_AT, verdict);
 }
 
-/// Writes a chart with an empty series to the front of a buffer. Answers its bytes.
+/// Writes a chart with an empty series to the front of a buffer. Answers the number of bytes.
 fn write_fresh(buffer: &mut [u8], kind: Kind, base: &[i16]) -> Result<usize, Refusal> {
     let size = BASE_AT + 2 * base.len() + 4;
     let form = buffer.get_mut(..size).ok_or(Refusal::TooShort)?;

@@ -1,6 +1,6 @@
-//! The course's figures, and the places of the paper that can be misread: each test has inputs that tell the readings apart.
+//! The course's figures, and the places of the paper that can be misread: each test has inputs for which a misreading gives another answer.
 
-/// A chart in a buffer with room for every form. Calls that are refused are checked to leave everything lent as it was.
+/// A chart in a buffer with room for every form. After a refused call it tests that everything lent is as it was.
 #[derive(Clone, PartialEq, Debug)]
 struct Desk {
     chart: Vec<u8>,
@@ -83,7 +83,7 @@ impl Desk {
         }
     }
 
-    /// Posts words by readings that give them; answers the verdicts.
+    /// Posts readings that give these words. Answers the verdicts.
     fn post(&mut self, words: impl IntoIterator<Item = i16>) -> Vec<u16> {
         let post = |w| {
             let (word, verdict) = self.post_reading(self.kind(), reading(self.kind(), w)).unwrap();
@@ -93,7 +93,7 @@ impl Desk {
         words.into_iter().map(post).collect()
     }
 
-    /// Whether the reanalysis passes, on a copy: one chart can be asked about many words.
+    /// Whether the reanalysis passes. It works on a copy, so that one chart can be asked about many words.
     fn passes(&self, w: i16) -> bool {
         let mut copy = self.clone();
         let (word, passed) = copy.reanalyse_reading(self.kind(), reading(self.kind(), w)).unwrap();
@@ -193,7 +193,7 @@ fn z() -> Desk {
     Desk::build(1, &[1000; 15]).0
 }
 
-/// A with words posted whose last has a verdict from 1 to 3.
+/// A after posts of these words. The last word has a verdict from 1 to 3.
 fn a_after(words: Vec<i16>) -> Desk {
     let mut desk = a();
     desk.post(words);
@@ -247,7 +247,7 @@ fn building() {
     let low = times(&[(1000, 14), (0, 1)]);
     assert_eq!((Desk::build(1, &low).1, Desk::build(1, &low).2), (1, 0));
     assert_eq!((Desk::build(2, &low).1, Desk::build(2, &low).2), (2, 1));
-    // A round removes together, and the floor of ten is reached.
+    // A round removes all words beyond a limit together. A base of ten words, the fewest, is reached.
     let (_, rounds, removed) = Desk::build(2, &times(&[(10_000, 13), (10_001, 13), (10_050, 1), (10_051, 1)]));
     assert_eq!((rounds, removed), (2, 2));
     let (desk, rounds, removed) = Desk::build(1, &[0, 0, 0, 0, 0, 0, 0, 0, 0, 0, 1, 12, 144, 1728, 20_000]);
@@ -286,7 +286,7 @@ fn verdicts() {
     assert_eq!(k().post([790, 790]), [0, 0]);
     assert_eq!(k().post([1001; 20]), [0; 20]);
     assert_eq!(k().post([1250, 1210]), [0, 2]);
-    // A status goes with each verdict.
+    // Each verdict sets a status.
     let state = |words: Vec<i16>| {
         let mut desk = a();
         desk.post(words);
@@ -314,7 +314,7 @@ fn reanalyses() {
     assert_eq!(desk.correct(), 0);
     assert_eq!(desk.state(), (1, 4));
     assert_eq!(ask(&desk, &[9600, 9700, 10_000, 10_100, 10_099]), [false, true, true, false, true]);
-    // "Near" is two-sided for kind 1 too, and never true where S is 0.
+    // "Near" is two-sided for kind 1 too, and never true if S is 0.
     let mut desk = k();
     assert_eq!(desk.post(by(1010, -10, 7))[6], 3);
     assert_eq!(ask(&desk, &[800, 961, 901, 900]), [false, true, true, false]);
@@ -325,7 +325,7 @@ fn reanalyses() {
     let mut desk = a_after(vec![10_250, 10_301]);
     assert_eq!(desk.reanalyse_reading(2, [10_250, 10_000, 0]), Ok((10_250, true)));
     assert_eq!((desk.check(), desk.state(), desk.series()), (0, (0, 0), vec![10_250, 10_250]));
-    // A failed one keeps the open verdict, and a correction changes the status alone.
+    // A failed one keeps the open verdict, and a correction changes only the status.
     let mut desk = a_after(vec![10_250, 10_210]);
     assert_eq!(desk.reanalyse_reading(2, [9790, 10_000, 0]), Ok((9790, false)));
     assert_eq!((desk.state(), desk.series(), desk.correct(), desk.state()), ((2, 2), vec![10_250, 10_210], 0, (1, 2)));
@@ -344,7 +344,7 @@ fn order_of_refusals() {
     assert_eq!([0, 1, 3, 4].map(|kind| desk.reanalyse_reading(kind, outside)), [Err(4); 4]);
     assert_eq!([outside, zero, far].map(|reading| desk.reanalyse_reading(2, reading)), [Err(5), Err(6), Err(7)]);
     assert_eq!(desk.state(), (1, 1));
-    // A full series: 9 before 4, 8 before 9; the 366th post is accepted and can be analysed again.
+    // A full series: 9 before 4, 8 before 9; the 366th post is accepted, and its reanalysis too.
     let mut desk = a();
     desk.post([9990, 10_010].repeat(183));
     assert_eq!((desk.size, desk.post_reading(1, outside), desk.post_reading(2, good)), (48 + 732, Err(9), Err(9)));
@@ -364,7 +364,7 @@ fn order_of_refusals() {
     desk.size = 815;
     let refusals = (desk.post_reading(2, good), desk.reanalyse_reading(2, good), desk.correct(), desk.renew());
     assert_eq!(refusals, (Err(13), Err(13), 13, Err(13)));
-    // An unsound chart is given back as it came, before anything else is looked at.
+    // A chart that is not sound is refused before anything else is tested, and given back as it came.
     let mut desk = Desk::of([2, 3, 0], &base_a(), &[]);
     let refusals = (desk.post_reading(4, outside), desk.reanalyse_reading(4, outside), desk.correct(), desk.renew());
     assert_eq!(refusals, (Err(14), Err(14), 14, Err(14)));
@@ -384,7 +384,7 @@ fn renewal() {
     let mut desk = Desk::of([2, 0, 0], &base_a(), &[9990, 10_010].repeat(10));
     assert_eq!(desk.renew(), Ok((1, 0)));
     assert_eq!(desk.form(), Desk::of([2, 0, 0], &[10_010, 9990].repeat(8)[..15], &[]).form());
-    // Twelve is about base and series together.
+    // Refusal 12 counts base and series together.
     let small = [1000; 10];
     assert_eq!(Desk::of([1, 0, 0], &small, &[1000; 4]).renew(), Err(12));
     assert_eq!(Desk::of([1, 0, 0], &small, &[1000; 5]).renew(), Ok((1, 0)));
@@ -419,7 +419,7 @@ fn forms() {
     assert_eq!([9, 33].map(|n| Desk::of([2, 0, 0], &vec![0; n], &[]).check()), [13; 2]);
     assert_eq!([10, 32].map(|n| Desk::of([2, 0, 0], &vec![0; n], &[]).check()), [0; 2]);
     assert_eq!([366, 367].map(|n| check([2, 0, 0], &vec![10_000; n])), [0, 13]);
-    // Head numbers are two bytes.
+    // The numbers of the first record have two bytes each.
     assert_eq!([0, 4, 257, 258].map(|kind| check([kind, 0, 0], &[])), [14; 4]);
     assert_eq!([1, 2, 3, 256].map(|status| check([2, status, 0], &[])), [14; 4]);
     assert_eq!([1, 4, 256].map(|verdict| check([2, 0, verdict], &[])), [14; 3]);
@@ -428,12 +428,12 @@ fn forms() {
     assert_eq!([fifteen(2, -20_001), fifteen(2, -20_000), fifteen(3, 20_001), fifteen(1, -1), fifteen(1, 0)], [14, 0, 14, 14, 0]);
     assert_eq!(Desk::of([1, 0, 0], &[0; 15], &[-1]).check(), 14);
     assert_eq!(Desk::of([3, 1, 1], &[0; 15], &[-20_001]).check(), 14);
-    // Words within the limits: of the base all, of the series all but the last of a chart that is not free.
+    // Words within the limits: all words of the base, and all of the series but the last one, if the chart is not free.
     assert_eq!(Desk::of([2, 0, 0], &times(&[(1000, 14), (0, 1)]), &[]).check(), 14);
     assert_eq!(Desk::of([1, 0, 0], &times(&[(1000, 14), (0, 1)]), &[]).check(), 0);
     assert_eq!((check([2, 0, 0], &[10_301, 10_000]), check([2, 0, 0], &[10_301]), check([2, 0, 0], &[10_300])), (14, 14, 0));
     assert_eq!((check([2, 1, 1], &[10_301, 10_301]), check([2, 1, 1], &[10_300, 10_301])), (14, 0));
-    // Status and verdict are not tied to each other, but the verdict is what the last word would get.
+    // Statuses 1 and 2 each go with every verdict 1 to 4, but the verdict has to be that of the last word.
     assert_eq!(check([2, 1, 4], &[10_001; 7]), 0);
     assert_eq!(check([2, 2, 1], &[10_301]), 0);
     assert_eq!([0, 1, 2, 3, 4, 5].map(|verdict| check([2, 1, verdict], &by(10_010, 10, 7))), [14, 14, 14, 0, 14, 14]);
@@ -444,17 +444,17 @@ fn forms() {
 fn lines() {
     let (c, ..) = Desk::build(2, &times(&[(10_000, 7), (10_001, 8)]));
     assert_eq!(c.lines(), [2_560_136, 2_559_873, 2_560_400, 2_559_740, 2_560_533]);
-    // The mean line is a floor for negatives too, so of a negated base the limits mirror and the mean line does not.
+    // The mean line goes down below 0 too. So with a negated base the limits' lines are negated, and the mean line is not.
     let (up, ..) = Desk::build(3, &times(&[(1, 7), (0, 8)]));
     let (down, ..) = Desk::build(3, &times(&[(-1, 7), (0, 8)]));
     assert_eq!((up.lines()[0], down.lines()[0]), (119, -120));
     assert_eq!([1, 2, 3, 4].map(|i| up.lines()[i]), [2, 1, 4, 3].map(|i| -down.lines()[i]));
-    // A lower limit just below zero is +0.0, as `lines` of a desk checks.
+    // The line of a lower limit just below 0 is +0.0: `Desk::lines` tests that no line is -0.0.
     let (desk, ..) = Desk::build(3, &times(&[(0, 2), (1, 1), (2, 6), (3, 5), (4, 5)]));
     assert_eq!(desk.lines()[1], 0);
     let (desk, ..) = Desk::build(2, &times(&[(-20_000, 16), (20_000, 16)]));
     assert_eq!((desk.lines()[4], desk.lines()[3]), (15_605_775, -15_605_775));
-    // Rooms, and a kind 1 chart.
+    // Buffers of each length, and a kind 1 chart.
     let rooms = |desk: &Desk| {
         [0, 1, 2, 3, 4, 5, 6].map(|room| {
             let (mut lines, mut count) = (vec![-1.5; room], 7);

@@ -1,8 +1,8 @@
 //! Measures both engines in one run, on the same inputs.
 //!
 //! Every call that takes a chart works on a fresh copy of the same form, in a buffer of 814 bytes that is copied whole before the call.
-//! Building and a word alone take no chart and have no copy. The loop with the copy or without it, and with no call in it, is measured in
-//! the same way and subtracted on both sides.
+//! Building and a word alone take no chart and have no copy. The loop without a call, with the copy or without it, is measured in the same
+//! way and subtracted for both engines.
 
 use crate::engines::{form, Engine, Plain, Proved, FORM_MOST};
 use std::hint::black_box;
@@ -41,7 +41,7 @@ fn base_a() -> Vec<i16> {
     [9900, 10_100].repeat(7).into_iter().chain([10_000]).collect()
 }
 
-/// Words on both sides of A's mean, in no order that a verdict looks for; the last seven rise where a verdict 3 is wanted.
+/// Words on both sides of A's mean, in an order that gives verdict 0. If `rising` is true, the last seven rise, for verdict 3.
 fn series(n: usize, rising: bool) -> Vec<i16> {
     let calm = [9950, 10_030, 9990, 10_110, 9890, 10_070].into_iter().cycle();
     if rising {
@@ -56,7 +56,7 @@ fn rows() -> Vec<Row> {
     let due = |status, n| form([2, status, 3], &base_a(), &series(n, true));
     let full = |status, verdict| form([2, status, verdict], &[9900, 10_100].repeat(16), &series(366, status != 0));
     let duplicates = form([1, 0, 0], &[900, 1100].repeat(7).into_iter().chain([1000]).collect::<Vec<i16>>(), &[1000, 1050, 990]);
-    // The words far away leave one by one.
+    // The words far away are removed one by one.
     let far = [10_060, 10_400, 12_600, 20_000].into_iter();
     let several: Vec<i16> = (0..28).map(|i| 10_000 + 3 * (i % 7)).chain(far).collect();
     let check = (2, 1001, 1000, 0);
@@ -84,7 +84,7 @@ fn rows() -> Vec<Row> {
 }
 
 impl Row {
-    /// What is measured beside the call, as a place in the rows.
+    /// The row of what is measured with the call and has to be subtracted, as a place in the rows.
     fn overhead(&self) -> usize {
         usize::from(!self.form.is_empty())
     }

@@ -1,5 +1,5 @@
-// Words against the lines of charts, by the lines' doubles: at the edges of the limits, and where there is no limit. The clients of the C
-// interface compare words with the limits of more charts.
+// Compares words with the lines of charts, by the lines' doubles: at the edges of the limits, and on charts without a lower limit or
+// without lines. The clients of the C interface compare words with the limits of more charts.
 use crate::say;
 use chart::Chart;
 

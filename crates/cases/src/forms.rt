@@ -1,4 +1,4 @@
-// Stored forms in lent buffers, every byte of which is said; charts written and read back; and the chart that a refused start gives.
+// Stored forms in lent buffers, with every byte said; charts written and read back; and the chart that a refused start gives.
 use crate::say;
 use chart::Chart;
 use store::ReadAnswer;
@@ -35,12 +35,12 @@ fn returned(a: Chart, due: Chart, bad: Chart) {
     built_and_returned(3, &[-313; 15]);
     built_and_returned(1, &[0, 0, 0, 0, 0, 0, 0, 0, 0, 0, 1, 12, 144, 1728, 20000]);
     longest_returned(a);
-    // What writing declines.
+    // Writing refuses these.
     read_back(bad, 1024);
     read_back(a, 47);
 }
 
-// Words below 0; the shortest base.
+// For words below 0, and for the shortest base.
 fn built_and_returned(kind: u16, words: &[i16]) {
     let r = Chart::build(kind, words);
     read_back(r.chart, 1024);
@@ -54,7 +54,7 @@ fn longest_returned(a: Chart) {
     read_back(full, 1024);
 }
 
-// Writes the chart into so many lent bytes, at most 64.
+// Writes the chart into `room` lent bytes, at most 64.
 fn write(chart: Chart, room: usize) {
     let mut lent = [170; 64];
     if room <= 64 {
@@ -72,7 +72,7 @@ fn write_into(chart: Chart, lent: &mut [u8]) {
     each_byte(lent);
 }
 
-// Two hex digits to a byte, behind a blank.
+// A blank and two hex digits for each byte.
 fn each_byte(bytes: &[u8]) {
     say::text(b":");
     let mut i: usize = 0;
@@ -84,7 +84,7 @@ fn each_byte(bytes: &[u8]) {
     say::end_of_line();
 }
 
-// Writes the chart into so many lent bytes, at most 1024, and reads what was written.
+// Writes the chart into `room` lent bytes, at most 1024, and reads what was written.
 fn read_back(chart: Chart, room: usize) {
     let mut lent = [170; 1024];
     if room <= 1024 {
@@ -110,7 +110,7 @@ fn came_back(chart: Chart) {
     say::status(chart);
 }
 
-// The number n, and the first n of the words. A chart that was read has them.
+// The number n, and the first n words. A chart that was read has that many.
 fn first_words(name: &[u8], words: &[i16], n: usize) {
     say::named(name, n as u64);
     if n <= words.len() {

@@ -1,5 +1,6 @@
-// Charts handed in that no call and no stored form gives, and one with status 9, which there is not. None is sound: a post refuses the chart
-// with 14. Of the chart that it gives back, status and verdict are said. The clients of the C interface try every call on such forms.
+// Charts handed in that no call and no stored form gives, and one with status 9, which does not exist. None is sound, so a post refuses
+// each with 14. The status and the verdict of the chart that it gives back are said. The clients of the C interface try every call on
+// stored forms of charts that are not sound.
 use crate::say;
 use chart::Chart;
 

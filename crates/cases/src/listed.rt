@@ -25,7 +25,7 @@ fn not_lists(words: &[i16]) {
     from_words(2, words, &[3; 45]);
 }
 
-// Words that building declines, with a list that can be run, one that is none, and one without room.
+// Words that building refuses, with a list that can be run, with numbers that are no list, and with a list without room.
 fn not_started(words: &[i16]) {
     let few = [10000; 14];
     one_call(2, &few, 3);
@@ -49,14 +49,14 @@ fn stored(a: Chart) {
     not_stored(&form);
 }
 
-// From the same with status 3, and from no bytes.
+// From the same form with status 3, and from no bytes.
 fn not_stored(form: &[u8]) {
     let one = [3, 0, 0, 0, 0];
     from_bytes(form, &one);
     from_bytes(&[], &one);
 }
 
-// ---- a list that is run
+// ---- running a list
 
 fn one_call(kind: u16, words: &[i16], number: i64) {
     from_words(kind, words, &[number, 0, 0, 0, 0]);
@@ -96,7 +96,7 @@ fn answered(answer: RunAnswer) {
     }
 }
 
-// Each number behind a blank.
+// A blank and each number.
 fn each_number(numbers: &[i64]) {
     say::text(b"; answers");
     let mut i: usize = 0;

@@ -1,7 +1,7 @@
-// Runs what no command of `control_chart` can express, and says what comes: charts handed in that no call gives, lent buffers, a chart
-// written and read back, words against a chart's lines, and whole lists of calls. The label of each case comes on standard input, a line
-// for each case in turn, and its answer is said behind it. `tests/model` makes both files, `stdin` and the `stdout` that is compared.
-// All functions but `fill` only say something, of which no contract can speak.
+// Runs what no command of `control_chart` can express, and says the answers: charts handed in that no call gives, lent buffers, a chart
+// written and read back, words against a chart's lines, and whole lists of calls. Standard input has a line for each case, with its label.
+// The label is said, and the answer after it. `tests/model` makes both files: `stdin`, and `stdout`, with which the output is compared.
+// All functions but `fill` only write output, and no contract can state what is written.
 mod against;
 mod forms;
 mod handed_in;
@@ -24,7 +24,7 @@ fn main() {
     forms::refused_starts(&words);
 }
 
-// Puts the word into every place from one on.
+// Puts the word into every place from `from` on.
 pub fn fill(words: &mut [i16], from: usize, word: i16) {
     let mut i = from;
     while i < words.len() {

@@ -15,13 +15,13 @@ pub fn label() {
     text(b": ");
 }
 
-// A line that stands by itself.
+// The next heading, as a line of its own.
 pub fn heading() {
     echo_line();
     end_of_line();
 }
 
-// The next line of standard input, without its line feed. None has more than 100 bytes.
+// Says the next line of standard input, without its line feed. No line has more than 100 bytes.
 fn echo_line() {
     let mut byte = [0u8; 1];
     let mut left: usize = 100;
@@ -50,7 +50,7 @@ pub fn signed(z: i64) {
     front(&out, size);
 }
 
-// A number behind its name.
+// A name, and a number after it.
 pub fn named(name: &[u8], n: u64) {
     text(name);
     let mut out = [0u8; 20];
@@ -64,7 +64,7 @@ pub fn refusal(n: u16) {
     front(&out, size);
 }
 
-// Each word behind a blank.
+// A name, and a blank and each word after it.
 pub fn words(name: &[u8], list: &[i16]) {
     text(name);
     let mut out = [0u8; 4096];

@@ -1,4 +1,4 @@
--- Laws of building: what its conditions decide, and its contract where it declines and where it builds.
+-- Laws of building: what its conditions decide, and its contract if it refuses and if it builds.
 use mathlib.Core.Path.{_≡_, refl, sym, ap, _∙_}
 use mathlib.Core.Bool.{Bool, true, false}
 use mathlib.Core.List.{List}
@@ -28,7 +28,7 @@ use Rattle.chart.proofs.State.{state-of-chart, fresh-is}
 
 -- ---- refusals
 
--- a number that is not 0 is the answer; 0 leaves it to rejection, and the words are few enough for a base
+-- a number that is not 0 is the answer. If it is 0, rejection gives the answer, and the words are few enough for a base
 pub declined : (kind : ℕ) (ws : List ℤ) (n : ℕ) → n ≡ buildRefusal kind ws → (n ≡ 0 → ⊥) → building kind ws ≡ refused n
 unfolding building
 declined kind ws zero e ne = absurd (ne refl)
@@ -49,7 +49,7 @@ accepted-few kind ws n e z =
     let count = count-holds (isKind kind) (isBuildCount ws) (allInRange kind ws) n e z in
     leb-true (length ws) baseMost (both (leb baseWanted (length ws)) (leb (length ws) baseMost) count .1)
 
--- ---- the contract of building, where it declines and where it does not
+-- ---- the contract of building, if it refuses and if it builds
 
 pub build-declined : (kind : ℕ) (ws : List ℤ) (n : ℕ) (c : Chart) → n ≡ buildRefusal kind ws → (n ≡ 0 → ⊥) → c ≡ zeroChart
     → Builds kind ws (record { chart = c; answer = Refused n })
@@ -73,7 +73,7 @@ build-accepted kind ws places n r e z p k =
       says = (λ i. built (state i) (k′ .rounds i) (k′ .removed i)) ∙ sym d;
     }
 
--- the fresh chart of what rejection leaves
+-- the fresh chart of the words that rejection leaves
 pub settled : (kind : ℕ) (a : guide.RejectionAnswer) (r : RejectionAnswer) (c : Chart) → IsRejection a r
     → c ≡ freshChart kind (r .left .words) (r .left .n)
     → IsSettled kind a (record { chart = c; rounds = r .rounds; removed = r .removed })

@@ -1,4 +1,4 @@
--- Laws of the calls: where a call is declined, where it is not, and what it then gives. One shape for all four.
+-- Laws of the calls: when a call is refused, when it is not, and what it then gives. All four calls have the same shape.
 use mathlib.Core.Path.{_≡_, refl, sym, ap, _∙_}
 use mathlib.Core.Bool.{Bool, true, false}
 use mathlib.Core.List.{List, _++_}
@@ -27,9 +27,9 @@ use Rattle.chart.specs.Calls.{nextChart, answerTo, Gives, refusalOn, wor
 use Rattle.chart.proofs.Places.{take-pad}
 use Rattle.chart.proofs.State.{Within, Given, given, chart-of-state}
 
--- ---- the number that a call is declined for
+-- ---- the number of a call's refusal
 
--- 14 and the number k for the status come first; where they do not apply, the rest decides
+-- 14 and the number k + 1 for the status come first. If they do not apply, the rest decides
 module _ (c : Chart) (n k rest : ℕ) (free : Bool) (e : n ≡ refusalOn c (require free (suc k) 0)) where
   first-by : (t u : Bool) → n ≡ require t 14 (require u (suc k) 0) → (n ≡ 0 → ⊥) → n ≡ require t 14 (require u (suc k) rest)
   first-by true true f ne = absurd (ne f)
@@ -45,7 +45,7 @@ module _ (c : Chart) (n k rest : ℕ) (free : Bool) (e : n ≡ refusalOn c (requ
   then-by true false f z = absurd (omega arith)
   then-by false u f z = absurd (omega arith)
 
-  -- .. and the chart's lengths lie within its arrays
+  -- the rest decides, and the chart's lengths lie within its arrays
   pub status-allows : length (c .base) ≡ baseMost → length (c .series) ≡ seriesMost → n ≡ 0
       → Within c × (rest ≡ refusalOn c (require free (suc k) rest))
   unfolding refusalOn
@@ -53,7 +53,7 @@ module _ (c : Chart) (n k rest : ℕ) (free : Bool) (e : n ≡ refusalOn c (requ
       let parts = then-by (soundChart c) free e z in
       (given c base series (parts .0) .within, parts .1)
 
--- a number that is not 0 comes before the reading; 0 leaves it to the reading
+-- a number that is not 0 comes before the reading. If it is 0, the reading decides
 pub number-first : (n chartKind kind : ℕ) (a b c : ℤ) → (n ≡ 0 → ⊥) → word.refused n ≡ wordUnless n chartKind kind a b c
 unfolding wordUnless
 number-first zero chartKind kind a b c ne = absurd (ne refl)
@@ -76,20 +76,20 @@ performs : (s : State) (call : Call) → refusalFor s call ≡ 0 → step s call
 unfolding step
 performs s call e = rw e
 
--- ---- what a call gives, by the machine's step from a sound chart
+-- ---- what a call on a sound chart gives, by the machine's step
 
 module _ (c : Chart) (call : Call) (next : Next) (t : soundChart c ≡ true) (e : step (stateOf c) call ≡ next) where
   gives : (d : Chart) (a : Answer) → d ≡ chartOf (next .state) → a ≡ next .answer → Gives c call d a
   unfolding nextChart answerTo
   gives d a p q = record { chart = rw (t, e) p; says = rw (t, e) q }
 
--- ---- a chart that is not sound: 14, and the same chart comes back
+-- ---- a chart that is not sound: 14, and the call gives back the same chart
 
 pub not-sound : (c : Chart) (call : Call) → soundChart c ≡ false → Gives c call c (refused 14)
 unfolding nextChart answerTo
 not-sound c call t = record { chart = rw t; says = rw t }
 
--- ---- a call that is declined before what it brings is looked at: n is the number, and the same chart comes back
+-- ---- a call that is refused before its reading: n is the number, and the call gives back the same chart
 
 module _ (c : Chart) (call : Call) (n : ℕ) (base : length (c .base) ≡ baseMost) (series : length (c .series) ≡ seriesMost)
     (e : n ≡ refusalOn c (refusalFor (stateOf c) call)) where
@@ -109,9 +109,9 @@ module _ (c : Chart) (call : Call) (n : ℕ) (base : length (c .base) ≡ baseMo
   pub call-declined : (n ≡ 0 → ⊥) → Gives c call c (refused n)
   call-declined ne = by-test (soundChart c) (λ t. by-machine t ne) unsound
 
--- ---- a call that is not
+-- ---- a call that is not refused before its reading
 
--- the chart is sound, its state is known, and the machine performs the call
+-- the chart is sound, and the machine performs the call: no refusal that the state alone decides applies
 pub record Accepted (c : Chart) (call : Call) : Type 0 where
   pub sound : Given c
   pub is-sound : soundChart c ≡ true
@@ -133,7 +133,7 @@ module _ (c : Chart) (call : Call) (k : Accepted c call) where
       → a ≡ next .answer → Gives c call d a
   performed-gives next e = gives c call next (k .is-sound) (performs (stateOf c) call (k .nothing) ∙ e)
 
--- ---- status and verdict set
+-- ---- setting the status and the open verdict
 
 status-set : (s : State) (c : Chart) (status v : ℕ) → c ≡ chartOf s → withStatus c status v ≡ chartOf (setStatus s status v)
 unfolding withStatus setStatus chartOf
@@ -141,16 +141,16 @@ status-set s c status v e = ap (λ (x : Chart). withStatus x status v) e
 
 -- ---- the four calls
 
--- the number of a refusal; 0 of a word
+-- the number of a refusal, and 0 for a word
 abbrev refusalOf : word.Formed → ℕ
 refusalOf (word.formed w) = 0
 refusalOf (word.refused n) = n
 
--- a call that brings a reading, of which f is what it gives
+-- a call that brings a reading. `next` is what the call gives for the word of the reading
 module _ (c : Chart) (call : Call) (kind : ℕ) (a b x : ℤ) (next : ℤ → Next) (base : length (c .base) ≡ baseMost)
     (series : length (c .series) ≡ seriesMost)
     (p : performed (stateOf c) call ≡ ifFormed (stateOf c) (wordFor (stateOf c .kind) kind a b x) next) where
-  -- it is declined by a number
+  -- the call is refused with a number
   pub reading-declined : (n m : ℕ) → n ≡ refusalOn c (refusalFor (stateOf c) call)
       → wordUnless n (stateOf c .kind) kind a b x ≡ word.refused m → Gives c call c (refused m)
   unfolding wordUnless
@@ -163,7 +163,7 @@ module _ (c : Chart) (call : Call) (kind : ℕ) (a b x : ℤ) (next : ℤ → Ne
       let number : suc n ≡ m = ap refusalOf h in
       rw (← number) (call-declined c call (suc n) base series e (λ z. absurd (omega arith)))
 
-  -- it gives a word, so the call is not declined before
+  -- the reading gives a word, so the call was not refused before
   pub reading-taken : (n : ℕ) (w : ℤ) → n ≡ refusalOn c (refusalFor (stateOf c) call)
       → wordUnless n (stateOf c .kind) kind a b x ≡ word.formed w
       → Accepted c call × (wordFor (stateOf c .kind) kind a b x ≡ word.formed w)
@@ -183,7 +183,7 @@ module _ (c : Chart) (kind : ℕ) (a b x w : ℤ) (formed : wordFor (stateOf c .
       let set = status-set (addWord s w) added status v f ∙ (λ i. chartOf (setStatus (addWord s w) ((g ∙ ap statusFor e) i) (e i))) in
       performed-gives c (post kind a b x) k (posting s w) (rw formed) d (judged w v) (h ∙ set) (ap (judged w) e)
 
-  -- the word passes for the last, or fails
+  -- the word passes in place of the last word, or it fails
   pub passed : Accepted c (reanalysis kind a b x) → (replaced d : Chart)
       → passes (limitsFor (stateOf c)) (stateOf c .openVerdict) (stateOf c .series) w ≡ true
       → replaced ≡ chartOf (replaceLast (stateOf c) w) → d ≡ withStatus replaced 0 0 → Gives c (reanalysis kind a b x) d (reanalysed w true)

@@ -19,12 +19,12 @@ use Rattle.chart.specs.Pad.{pad}
 use Rattle.chart.specs.Soundness.{isZero, unusedHoldZero}
 
 module _ {ℓ} {A : Type ℓ} (filler : A) (size : ℕ) where
-  -- the list itself again
+  -- the list again, taken from the places
   pub take-pad : (l : List A) (n : ℕ) → n ≡ length l → take n (pad filler size l) ≡ l
   unfolding pad
   take-pad l n e = take-at l (replicate (size - length l) filler) n (sym e)
 
-  -- the next element goes to the first place that is not used
+  -- the next element goes to the first unused place
   pub pad-snoc : (l : List A) (a : A) (n : ℕ) → n ≡ length l → length l < size
       → set (pad filler size l) n a ≡ pad filler size (l ++ (a ∷ []))
   unfolding pad
@@ -32,14 +32,14 @@ module _ {ℓ} {A : Type ℓ} (filler : A) (size : ℕ) where
       let f : size - length l ≡ suc (size - length (l ++ (a ∷ []))) = omega (arith, length-append l (a ∷ [])) in
       rw (f, set-at l filler (replicate (size - length (l ++ (a ∷ []))) filler) a n (sym e), append-assoc)
 
-  -- a list copied place by place: after i turns its first i elements stand
+  -- a list copied place by place: after i turns its first i elements are in place
   pub pad-next : (l : List A) (i : ℕ) (d : A) → i < length l → length l ≤ size
       → set (pad filler size (take i l)) i (getD l i d) ≡ pad filler size (take (i + 1) l)
   pad-next l i d h few =
       let n : i ≡ length (take i l) = sym (length-take-le i l (omega arith)) in
       pad-snoc (take i l) (getD l i d) i n (omega arith) ∙ ap (pad filler size) (sym (rw (add-one, take-suc l i d)))
 
--- the places that are left of equal ones
+-- equal places without the first n
 pub drop-replicate {ℓ} : {A : Type ℓ} (n size : ℕ) (x : A) → drop n (replicate size x) ≡ replicate (size - n) x
 drop-replicate zero size x = let none : size ≡ size - 0 = omega arith in ap (λ (k : ℕ). replicate k x) none
 drop-replicate (suc n) zero x = let none : 0 ≡ 0 - suc n = omega arith in ap (λ (k : ℕ). replicate k x) none
@@ -47,7 +47,7 @@ drop-replicate (suc n) (suc size) x =
     let one : size - n ≡ suc size - suc n = omega arith in
     drop-replicate n size x ∙ ap (λ (k : ℕ). replicate k x) one
 
--- the first of the first
+-- the first i of the first n are the first i of all
 pub take-fewer {ℓ} : {A : Type ℓ} (i n : ℕ) (l : List A) → i ≤ n → take i (take n l) ≡ take i l
 take-fewer zero n l h = refl
 take-fewer (suc i) zero l h = absurd (omega arith)
@@ -67,7 +67,7 @@ joined-second xs ys i d h =
 
 -- ---- places that hold 0
 
--- an element that was tested by its bits
+-- the test of an element's bits decides whether the element is 0
 pub zero-held : {z : ℤ} → SFits w16 z → ofZ w16 z ≡ 0 → isZero z ≡ true
 unfolding isZero
 zero-held f e = ap isZero (sym (toZ-ofZ f) ∙ ap (toZ w16) e)
@@ -94,7 +94,7 @@ unfolding allOf isZero
 replicate-zeros zero = refl
 replicate-zeros (suc n) = replicate-zeros n
 
--- places whose unused ones hold 0 are the used ones, padded; and the other way round
+-- places whose unused ones hold 0 are the used ones, padded. The unused places of a padded list hold 0
 pub pad-take : (size n : ℕ) (places : List ℤ) → length places ≡ size → n ≤ size → unusedHoldZero n places ≡ true
     → pad (pos 0) size (take n places) ≡ places
 unfolding pad unusedHoldZero
@@ -111,7 +111,7 @@ unused-of-pad size l =
     let rest = replicate (size - length l) (pos 0) in
     ap (allOf isZero) (drop-append-seam l rest) ∙ replicate-zeros (size - length l)
 
--- a word written at i, where the places after it hold 0: i + 1 places are used then
+-- a word is written at i, and the places after it hold 0. Then i + 1 places are used
 pub pad-set : (size i : ℕ) (places : List ℤ) (w : ℤ) → length places ≡ size → i < size → unusedHoldZero (i + 1) places ≡ true
     → set places i w ≡ pad (pos 0) size (take i places ++ (w ∷ []))
 unfolding unusedHoldZero
@@ -122,7 +122,7 @@ pad-set size i places w e h z =
     let whole = pad-take size (i + 1) (set places i w) (length-set places i w ∙ e) (omega arith) zero′ in
     sym whole ∙ ap (pad (pos 0) size) used
 
--- one place less is unused
+-- if the unused places hold 0, so do those with one place less
 pub unused-after : (n : ℕ) (places : List ℤ) → n < length places → unusedHoldZero n places ≡ true → unusedHoldZero (n + 1) places ≡ true
 unfolding unusedHoldZero
 unused-after n places h z =

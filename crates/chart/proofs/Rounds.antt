@@ -33,7 +33,7 @@ marked-shorter [] ws = omega arith
 marked-shorter (m ∷ ms) [] = omega arith
 marked-shorter (m ∷ ms) (w ∷ ws) = choose-shorter m w (withoutMarked ms ws) (length ws) (marked-shorter ms ws)
 
--- a mark and a word more
+-- one more mark and word
 choose-snoc : (t : Bool) (w : ℤ) (r s e : List ℤ) → s ≡ r ++ e → choose t s (w ∷ s) ≡ choose t r (w ∷ r) ++ e
 choose-snoc true w r s e h = h
 choose-snoc false w r s e h = ap (λ (x : List ℤ). w ∷ x) h
@@ -48,13 +48,13 @@ marked-snoc (n ∷ ms) (x ∷ ws) m w e =
     let more = withoutMarked (ms ++ (m ∷ [])) (ws ++ (w ∷ [])) in
     choose-snoc n x (withoutMarked ms ws) more (choose m [] (w ∷ [])) (marked-snoc ms ws m w (omega arith))
 
--- marked by a test, they are the words without those that pass it
+-- if a test marks the words, these are the words without those that pass it
 marked-by : (test : ℤ → Bool) (ws : List ℤ) → withoutMarked (map test ws) ws ≡ without test ws
 unfolding withoutMarked without
 marked-by test [] = refl
 marked-by test (w ∷ ws) = ap (λ (x : List ℤ). choose (test w) x (w ∷ x)) (marked-by test ws)
 
--- a turn of the loop that compacts the words: n words stand in the places a after i were looked at
+-- the loop that moves the kept words together: after i words, n words stand at the front of the places a
 abbrev pub Moved : List Bool → List ℤ → ℕ → List ℤ → ℕ → Type 0
 Moved ms ws i a n = Holds (withoutMarked (take i ms) (take i ws)) (record { words = a; n = n })
 
@@ -96,7 +96,7 @@ round-is kind n ws marks limits count own e =
     ap (take n) e ∙ take-pad false baseMost (map test ws) n (count ∙ sym (length-map ws test)) in
     ap (λ (x : List Bool). withoutMarked x ws) same ∙ marked-by test ws ∙ ap (λ (x : Limits). without (beyondControl x) ws) own
 
--- ---- rejection, by what a round left
+-- ---- rejection, from what a round leaves
 
 module _ (kind : ℕ) (ws : List ℤ) (left : Standing) (h : Holds (afterRound kind ws) left) where
   pub rejects-last : left .n ≡ length ws → IsRejection (rejection kind ws) (record { left = left; rounds = 1; removed = 0 })
@@ -117,7 +117,7 @@ module _ (kind : ℕ) (ws : List ℤ) (left : Standing) (h : Holds (afterRound k
       rw (rejection-goes-on kind ws (omega (arith, h .count, fewer ne)))
       (record { left = again .left; rounds = ap (λ (x : ℕ). x + 1) (again .rounds); removed = omega (arith, again .removed, h .count) })
 
--- rounds and removals stay small
+-- bounds on rounds and removals
 pub record Few (ws : List ℤ) (r : RejectionAnswer) : Type 0 where
   pub rounds : r .rounds ≤ length ws + 1
   pub removed : r .removed ≤ length ws

@@ -1,5 +1,5 @@
 -- Lists of calls on the chart that stands for a sound state: chart and answers are the machine's, the chart stays sound, and 14 never
--- occurs. So it is of every list from a chart that building gives (`built-runs`).
+-- occurs. The same holds for every list from a chart that building gives (`built-runs`).
 use mathlib.Core.Path.{_≡_, refl, ap, _∙_}
 use mathlib.Core.Bool.{true}
 use mathlib.Core.List.{List, [], _∷_, List·Memᴰ as Among}
@@ -32,7 +32,7 @@ sound-chart-of s h =
     rw (le-leb (length (s .base)) baseMost (f .base-most), le-leb (length (s .series)) seriesMost (f .series-most), base, series)
     (ap sound (state-of-chart s) ∙ h)
 
--- ---- one call on it
+-- ---- one call on such a chart
 
 module _ (s : State) (call : Call) (h : sound s ≡ true) where
   pub next-is : nextChart (chartOf s) call ≡ chartOf (step s call .state)

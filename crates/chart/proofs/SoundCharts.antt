@@ -11,7 +11,7 @@ use Rattle.chart.specs.declared.Chart.{Chart}
 use Rattle.chart.specs.Chart.{stateOf}
 use Rattle.chart.specs.Soundness.{unusedHoldZero, placesSound, soundChart}
 
--- what the tests of the places say
+-- what `placesSound` says
 pub record PlacesSound (c : Chart) : Type 0 where
   pub base-few : c .«base_len» ≤ baseMost
   pub series-few : c .«series_len» ≤ seriesMost

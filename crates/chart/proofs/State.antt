@@ -1,4 +1,4 @@
--- The chart and the state it stands for.
+-- The chart and the state that it stands for.
 use mathlib.Core.Path.{_≡_, refl, sym, ap, _∙_}
 use mathlib.Core.Bool.{true}
 use mathlib.Core.List.{List, [], _∷_, _++_}
@@ -18,7 +18,7 @@ use Rattle.chart.specs.Soundness.{unusedHoldZero, soundChart}
 use Rattle.chart.proofs.Places.{take-pad, pad-take, pad-set, unused-after, take-fewer}
 use Rattle.chart.proofs.SoundCharts.{SoundChart, sound-chart-facts}
 
--- a chart stands for the state that it was made of
+-- the chart of a state stands for that state
 pub state-of-chart : (s : State) → stateOf (chartOf s) ≡ s
 unfolding stateOf chartOf
 state-of-chart s =
@@ -36,7 +36,7 @@ pub fresh-is : (kind : ℕ) (ws base : List ℤ) (n : ℕ) → base ≡ pad (pos
 unfolding freshChart chartOf fresh pad
 fresh-is kind ws base n p q = rw (p, q)
 
--- the same chart with another series; the state that it would stand for
+-- the same chart with another series, and the state with another series
 abbrev withSeries : Chart → List ℤ → ℕ → Chart
 withSeries c series n =
     record {
@@ -61,7 +61,7 @@ pub record Within (c : Chart) : Type 0 where
   pub series-few : c .«series_len» ≤ seriesMost
 
 module _ (c : Chart) (h : Within c) where
-  -- as many words as the chart says can be taken of the places, and are
+  -- the arrays have at least as many places as the chart counts words, and that many words are taken
   pub base-fits : c .«base_len» ≤ length (c .base)
   base-fits = omega (arith, h .base-places, h .base-few)
 
@@ -96,7 +96,7 @@ module _ (c : Chart) (g : Given c) where
   series-is =
       pad-take seriesMost (c .«series_len») (c .series) (g .within .series-places) (g .within .series-few) (g .facts .places .series-zero)
 
-  -- a sound chart is the one that stands for its state
+  -- a sound chart is the chart that stands for its state
   pub chart-of-state : chartOf (stateOf c) ≡ c
   unfolding chartOf stateOf
   chart-of-state =
@@ -110,7 +110,7 @@ module _ (c : Chart) (g : Given c) where
         «open_verdict» = c .«open_verdict»;
       }
 
-  -- a word written at place i of the series, where the places after it hold 0
+  -- a word is written at place i of the series, and the places after it hold 0
   written : (i n : ℕ) (w : ℤ) → i < seriesMost → unusedHoldZero (i + 1) (c .series) ≡ true → n ≡ i + 1
       → withSeries c (set (c .series) i w) n ≡ chartOf (stateWith c (take i (c .series) ++ (w ∷ [])))
   unfolding chartOf stateOf
@@ -128,7 +128,7 @@ module _ (c : Chart) (g : Given c) where
         «open_verdict» = c .«open_verdict»;
       }
 
-  -- a word added, and a word in the place of the last
+  -- a word is added, or replaces the last
   pub word-added : (w : ℤ) → c .«series_len» < seriesMost
       → withSeries c (set (c .series) (c .«series_len») w) (c .«series_len» + 1) ≡ chartOf (addWord (stateOf c) w)
   unfolding addWord stateOf

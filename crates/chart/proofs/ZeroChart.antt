@@ -1,5 +1,5 @@
--- The chart of zeros, which a refused build and a refused read give: it is the chart that stands for the state of kind 0 with no words
--- (`zeros-state`), so that every number and every place of it is 0; and it is not sound (`zeros-not-sound`).
+-- The chart of zeros, which a refused build or read gives. It stands for the state of kind 0 with no words (`zeros-state`), so all its
+-- numbers and places are 0. It is not sound (`zeros-not-sound`).
 use mathlib.Core.Path.{_≡_, refl}
 use mathlib.Core.Bool.{false}
 use mathlib.Core.List.{[]}
@@ -15,7 +15,7 @@ pub zeros-state : zeroChart ≡ chartOf (fresh 0 [])
 unfolding zeroChart freshChart chartOf fresh pad
 zeros-state = refl
 
--- no chart is of kind 0
+-- no sound chart has kind 0
 pub zeros-not-sound : soundChart zeroChart ≡ false
 unfolding zeroChart freshChart stateOf soundChart placesSound unusedHoldZero isZero allOf sound wordsSound isKind
 zeros-not-sound = refl

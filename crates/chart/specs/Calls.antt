@@ -1,4 +1,4 @@
--- What a call on a chart gives: the machine's step, through the state that the chart stands for. One shape for all four calls.
+-- What a call on a chart gives: the machine's step on the state that the chart stands for. All four calls have the same shape.
 use mathlib.Core.Path.{_≡_}
 use mathlib.Core.Bool.{true, false}
 use mathlib.Core.List.{List, [], _∷_}
@@ -19,9 +19,9 @@ use Rattle.chart.specs.declared.RenewalAnswer.the-variants as renewal
 use Rattle.chart.specs.Chart.{stateOf, chartOf}
 use Rattle.chart.specs.Soundness.{soundChart}
 
--- 14 "a chart value handed in: not sound" comes before all that the machine declines, and the same chart comes back. A sound chart is the
--- one that stands for its state, its arrays being as long as its type says (`chart-of-state` in `proofs/State`), so a call that the machine
--- declines gives the same chart too
+-- 14 "a chart value handed in: not sound" comes before all refusals of the machine, and the call gives back the same chart. A sound chart
+-- whose arrays have the lengths of its type is the chart that stands for its state (`chart-of-state` in `proofs/State`). So a call that the
+-- machine refuses gives back the same chart too
 unfoldable pub nextChart : Chart → Call → Chart
 nextChart c call = choose (soundChart c) (chartOf (step (stateOf c) call .state)) c
 
@@ -33,13 +33,13 @@ pub record Gives (c : Chart) (call : Call) (next : Chart) (answer : Answer) : Ty
   pub chart : next ≡ nextChart c call
   pub says : answer ≡ answerTo c call
 
--- ---- what the calls' parts give: `post_refusal`, `status_refusal`, `renewal_refusal`, `word_unless`
+-- ---- what parts of the calls give: `post_refusal`, `status_refusal`, `renewal_refusal`, `word_unless`
 
--- 14 first, and then the number that the machine declines the call for before it looks at what the call brings, or 0
+-- 14 first, and then the number. The number is the machine's refusal that the state alone decides, or 0
 unfoldable pub refusalOn : Chart → ℕ → ℕ
 refusalOn c number = require (soundChart c) 14 number
 
--- a number that is not 0 declines the call; where it is 0, the reading that the call brings decides
+-- a number that is not 0 refuses the call. If it is 0, the call's reading decides
 unfoldable pub wordUnless : ℕ → ℕ → ℕ → ℤ → ℤ → ℤ → word.Formed
 wordUnless zero chartKind kind a b c = wordFor chartKind kind a b c
 wordUnless (suc n) chartKind kind a b c = word.refused (suc n)
@@ -64,7 +64,7 @@ renewalSays (renewal.Done rounds removed) = renewed rounds removed
 renewalSays (renewal.Refused n) = refused n
 
 -- ---- a list of calls: "The first call takes the chart from building or reading, each later one the chart that the call before it gave
--- back". What a call gives back is `nextChart` and `answerTo`, by its contract; `proofs/Runs` has how these runs and the machine's agree
+-- back". By its contract a call gives `nextChart` and `answerTo`. `proofs/Runs` proves that these runs agree with the machine's
 
 unfoldable pub chartAfterCalls : Chart → List Call → Chart
 chartAfterCalls c [] = c

@@ -66,7 +66,7 @@ withStatus c status openVerdict =
 unfoldable pub zeroChart : Chart
 zeroChart = freshChart 0 (replicate baseMost (pos 0)) 0
 
--- the fresh chart of the base that rejection leaves, the rounds and the number removed
+-- r holds the fresh chart with the base that rejection leaves, the rounds and the number removed
 pub record IsSettled (kind : ℕ) (a : RejectionAnswer) (r : Settled) : Type 0 where
   pub chart : r .chart ≡ chartOf (fresh kind (a .base))
   pub rounds : r .rounds ≡ a .rounds
@@ -77,7 +77,7 @@ pub record LimitsFor (s : State) (l : Limits) : Type 0 where
   pub same : limitsSay l ≡ limitsFor s
   pub bounded : Bounded (l .sums)
 
--- what the cases say, of the chart that is given with them
+-- what the cases of building's answer say, for the chart c that comes with the answer
 unfoldable pub buildSays : Chart → BuildAnswer → BuildingAnswer
 buildSays c (Done rounds removed) = built (stateOf c) rounds removed
 buildSays c (Refused n) = refused n

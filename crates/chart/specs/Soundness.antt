@@ -1,4 +1,4 @@
--- When the program's chart is sound: document 01, "Stored form". Any value of the type may be handed in.
+-- When the program's chart is sound: document 01, "Stored form". A program can hand in any value of the type.
 use mathlib.Core.Bool.{Bool, _&&_}
 use mathlib.Core.List.{List}
 use Prim.Native.Nat.{ℕ}
@@ -26,6 +26,6 @@ placesSound c =
     && (unusedHoldZero (c .«base_len») (c .base)
     && unusedHoldZero (c .«series_len») (c .series)))
 
--- .. and the state that the chart stands for is sound
+-- the places are sound, and so is the state that the chart stands for
 unfoldable pub soundChart : Chart → Bool
 soundChart c = placesSound c && sound (stateOf c)

@@ -1,11 +1,11 @@
 // The chart of document 01: building one, and the calls that take a chart and hand it back.
 //
-// Building declines, in this order: 1 a kind that is not 1..3, 2 words that are not 15..32, 3 a word out of range. A refused build
-// gives the chart of zeros.
+// Building refuses, in this order: 1 a kind that is not 1..3, 2 a number of words that is not 15..32, 3 a word out of range. A refused
+// build gives the chart of zeros.
 //
-// Every call declines first, with 14, a chart that is not sound, whatever its lengths are. Then, in this order: post 8 (status not 0),
-// 9 (366 words in the series), 4 (a reading of another kind), 5, 6, 7; reanalyse 10 (status not 1), 4, 5, 6, 7; correct 11 (status not 2);
-// renew 8, 12 (base and series below 15). A refused call gives back the very chart that came.
+// Every call first refuses, with 14, a chart that is not sound, whatever its lengths are. Then it refuses, in this order: post 8 (status
+// not 0), 9 (366 words in the series), 4 (a reading of another kind), 5, 6, 7; reanalyse 10 (status not 1), 4, 5, 6, 7; correct 11 (status
+// not 2); renew 8, 12 (base and series below 15). A refused call gives back the very chart that it got.
 mod rejection;
 pub mod soundness;
 
@@ -193,9 +193,9 @@ impl Chart {
         self.renew_sound()
     }
 
-    // ---- the calls on a chart that is known to be sound, as one that was just read is
+    // ---- the calls on a chart that is known to be sound, for example one just read
 
-    // The word is judged, added to the series, and answered with its verdict.
+    // Judges the word, adds it to the series, and answers word and verdict.
     pub fn post_sound(mut self, kind: u16, a: i64, b: i64, c: i64) -> Posted
         requires { ⌜ soundChart self ≡ true ⌝ }
         ensures { λ r. ⌜ Gives self (machine.post kind a b c) (r .chart) (postSays (r .answer)) ⌝ }
@@ -221,8 +221,8 @@ impl Chart {
         }
     }
 
-    // A word that passes replaces the last of the series, and the chart is free again; one that fails leaves the series, and a correction
-    // is due.
+    // A word that passes replaces the last of the series, and the chart is free again. If the word fails, the series does not change, and a
+    // correction is due.
     pub fn reanalyse_sound(mut self, kind: u16, a: i64, b: i64, c: i64) -> Reanalysed
         requires { ⌜ soundChart self ≡ true ⌝ }
         ensures { λ r. ⌜ Gives self (machine.reanalysis kind a b c) (r .chart) (reanalysisSays (r .answer)) ⌝ }
@@ -270,7 +270,7 @@ impl Chart {
         }
     }
 
-    // The last 15 words of base and series make the new base, as in building.
+    // Rejection from the last 15 words of base and series gives the new base, as in building.
     pub fn renew_sound(mut self) -> Renewed
         requires { ⌜ soundChart self ≡ true ⌝ }
         ensures { λ r. ⌜ Gives self machine.renewal (r .chart) (renewalSays (r .answer)) ⌝ }
@@ -293,9 +293,9 @@ impl Chart {
         }
     }
 
-    // ---- what a call on a sound chart is declined for before what it brings is looked at: the number, or 0
+    // ---- refusals of a sound chart that its state alone decides, before the call's reading: the number, or 0 if none applies
 
-    // The number given, for a status that is not the one wanted.
+    // The number given, if the status is not the one wanted.
     fn status_refusal(self, wanted: u16, number: u16) -> u16
         requires { ⌜ soundChart self ≡ true ⌝ }
         ensures { λ r. ⌜ r ≡ refusalOn self (require (eqb (self .status) wanted) number 0) ⌝ }
@@ -334,7 +334,7 @@ impl Chart {
         0
     }
 
-    // ---- what a sound chart's words are judged by
+    // ---- judging on a sound chart
 
     // The verdict that posting w would give.
     fn verdict_on(self, w: i16) -> u16
@@ -349,7 +349,7 @@ impl Chart {
         verdict(l, &series[..after])
     }
 
-    // Whether w passes in the place of the last word.
+    // Whether w passes in place of the last word of the series.
     fn passes_for_last(self, w: i16) -> bool
         requires { ⌜ soundChart self ≡ true ⌝ }
         ensures { λ r. ⌜ r ≡ reanalyses.passes (limitsFor (stateOf self)) (self .«open_verdict») (stateOf self .series) w ⌝ }
@@ -398,7 +398,7 @@ impl Chart {
         self
     }
 
-    // The last 15 words of the base followed by the series, in the places of a base.
+    // The last 15 words of the base followed by the series, at the front of an array for a base.
     fn last_words(self) -> [i16; Chart::BASE_MOST]
         requires { ⌜ (soundChart self ≡ true) × (baseWanted ≤ self .«base_len» + self .«series_len») ⌝ }
         ensures { λ r. ⌜ r ≡ pad (pos 0) baseMost (lastWords baseWanted (stateOf self .base ++ stateOf self .series)) ⌝ }
@@ -411,7 +411,7 @@ impl Chart {
     }
 }
 
-// The number of the refusal that building answers, or 0 where it declines nothing.
+// The number of building's refusal, or 0 if none applies.
 fn build_refusal(kind: u16, words: &[i16]) -> u16
     ensures { λ r. ⌜ r ≡ buildRefusal kind (now (words .entry)) ⌝ }
 {
@@ -434,7 +434,7 @@ fn is_build_count(words: &[i16]) -> bool
     (Chart::BASE_WANTED <= n) & (n <= Chart::BASE_MOST)
 }
 
-// The words in the places of a base, with 0 in those that are not used.
+// The words at the front of an array for a base, with 0 in the unused places.
 fn padded(words: &[i16]) -> [i16; Chart::BASE_MOST]
     requires { ⌜ length (now words) ≤ baseMost ⌝ }
     ensures { λ r. ⌜ r ≡ pad (pos 0) baseMost (now (words .entry)) ⌝ }
@@ -449,7 +449,7 @@ fn padded(words: &[i16]) -> [i16; Chart::BASE_MOST]
     base
 }
 
-// The last 15 words of two slices, one after the other.
+// The last 15 words of the two slices, one after the other.
 fn last_of_both(base: &[i16], series: &[i16]) -> [i16; Chart::BASE_MOST]
     requires { ⌜ baseWanted ≤ length (now base) + length (now series) ⌝ }
     ensures { λ r. ⌜ r ≡ pad (pos 0) baseMost (lastWords baseWanted (now (base .entry) ++ now (series .entry))) ⌝ }
@@ -464,7 +464,7 @@ fn last_of_both(base: &[i16], series: &[i16]) -> [i16; Chart::BASE_MOST]
     words
 }
 
-// The word at place i of two slices, one after the other.
+// The word at place i of the two slices, one after the other.
 fn word_at(base: &[i16], series: &[i16], i: usize) -> i16
     requires { ⌜ i < length (now base) + length (now series) ⌝ }
     ensures { λ r. ⌜ r ≡ getD (now (base .entry) ++ now (series .entry)) i (pos 0) ⌝ }
@@ -477,8 +477,7 @@ fn word_at(base: &[i16], series: &[i16], i: usize) -> i16
     series[j]
 }
 
-// The word of a reading that comes to a chart, or a refusal: by the number that the call is declined for before its reading is looked at,
-// unless that is 0, and then by 4, 5, 6, 7.
+// The word of a reading for a chart, or a refusal. A number that is not 0 is the refusal. If it is 0, the reading decides: 4, 5, 6, 7.
 fn word_unless(number: u16, chart_kind: u16, kind: u16, a: i64, b: i64, c: i64) -> Formed
     ensures { λ r. ⌜ formedSays r ≡ wordUnless number «chart_kind» kind a b c ⌝ }
 {
@@ -488,7 +487,7 @@ fn word_unless(number: u16, chart_kind: u16, kind: u16, a: i64, b: i64, c: i64) 
     word_for(chart_kind, kind, a, b, c)
 }
 
-// The fresh chart of the base that rejection leaves of the first n words.
+// The fresh chart with the base that rejection leaves of the first n words.
 fn settle(kind: u16, words: [i16; Chart::BASE_MOST], n: usize) -> Settled
     requires { ⌜ n ≤ baseMost ⌝ }
     ensures { λ r. ⌜ IsSettled kind (rejection kind (take n words)) r ⌝ }

@@ -1,7 +1,7 @@
 // Rejection: document 01, "Base, limits, rejection".
 //
-// A round marks the words beyond the control limits and then compacts the others. Words stand in the front of 32 places, with 0 in the
-// rest.
+// A round marks the words beyond the control limits and then moves the others together. Words stand at the front of 32 places, with 0 in
+// the rest.
 use crate::Chart;
 use limits::Limits;
 use limits::beyond_control;
@@ -24,7 +24,7 @@ pub struct Standing {
     pub n: usize,
 }
 
-// The words left, the rounds, and the number of words that they removed.
+// The words left, the rounds, and the number of words that the rounds removed.
 pub struct RejectionAnswer {
     pub left: Standing,
     pub rounds: usize,

@@ -1,5 +1,5 @@
-// Whether a chart is sound: document 01, "Stored form". Any value of the type may be handed in, so words are taken of the arrays only
-// where the lengths are known to lie within them.
+// Whether a chart is sound: document 01, "Stored form". A program can hand in any value of the type. So the code tests that the lengths lie
+// within the arrays before it takes the words of base and series.
 use crate::Chart;
 use judging::standing::limits_hold;
 use judging::standing::status_fits;
@@ -62,7 +62,7 @@ fn state_sound(c: Chart) -> bool
     is_sound(c.kind, &base[..n], &series[..m], c.status, c.open_verdict)
 }
 
-// The state with these parts is sound. Reading asks this of the words before they stand in a chart, so that no chart is copied for it.
+// The state with these parts is sound. Reading tests this before the words stand in a chart, so that it does not copy a chart.
 pub fn is_sound(kind: u16, base: &[i16], series: &[i16], status: u16, open_verdict: u16) -> bool
     requires { ⌜ length (now base) ≤ baseMost ⌝ }
     ensures { λ r. ⌜ r ≡ sound (state kind (now (base .entry)) (now (series .entry)) status «open_verdict») ⌝ }
@@ -73,7 +73,7 @@ pub fn is_sound(kind: u16, base: &[i16], series: &[i16], status: u16, open_verdi
     words_sound(kind, base, series) & limits
 }
 
-// The kind, the numbers of words, and their range.
+// The kind is 1..3, and the numbers of words and the words are in range.
 fn words_sound(kind: u16, base: &[i16], series: &[i16]) -> bool
     ensures { λ r. ⌜ r ≡ wordsSound kind (now (base .entry)) (now (series .entry)) ⌝ }
 {

@@ -1,4 +1,4 @@
--- Laws of building into a lent buffer: what `Chart::build` gives of the kind that stands for the one that was brought.
+-- Laws of building into a lent buffer: what `Chart::build` gives for the kind of sixteen bits.
 use mathlib.Core.Path.{_≡_, sym, ap, _∙_}
 use mathlib.Core.Bool.{true}
 use mathlib.Core.List.{List}

@@ -40,7 +40,7 @@ module _ (doubles before : List Float) (count : ℕ) where
       let fits = le-leb (length doubles) (length before) h in
       record { answered = rw fits; buffer = rw fits is; of-count = rw fits }
 
--- ---- bytes that reading declines
+-- ---- bytes that reading refuses
 
 module _ (bytes : List ℕ) (h : Held) (is : IsHeld (reading bytes) h) (ne : h .number ≡ 0 → ⊥) where
   pub not-drawn : (before : List Float) (count : ℕ) → Draws (drawn bytes before) before before count count (h .number)

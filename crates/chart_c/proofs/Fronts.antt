@@ -1,4 +1,5 @@
--- Laws of a list copied to the front of a buffer, over any element type: of one more by a turn of the loop, and of all at its end.
+-- Laws of a list copied to the front of a buffer, for any element type: after each turn of the loop (`front-more`), and at its end
+-- (`front-all`).
 use mathlib.Core.Path.{_≡_, ap, _∙_}
 use mathlib.Core.List.{List, _++_, append-assoc}
 use Prim.Native.Nat.{ℕ, suc, _+_, _<_}

@@ -1,4 +1,4 @@
--- Laws of the chart that stands in a lent buffer: what the number that reading answers tells, and that a chart which is read is sound.
+-- Laws of the chart in a lent buffer: what the number of `held_in` means, and that a chart that was read is sound.
 use mathlib.Core.Path.{_≡_, refl, sym, ap, _∙_}
 use mathlib.Core.Bool.{Bool, true, false}
 use mathlib.Core.List.{List}
@@ -24,7 +24,7 @@ use Rattle.chart_c.specs.declared.forms.Held.{Held}
 use Rattle.chart_c.specs.Outcome.{Outcome, done, declined, numberOf, andThen}
 use Rattle.chart_c.specs.Forms.{readingOutcome, readingFront, IsHeld}
 
--- ---- what `held_in` gives of the two answers of reading
+-- ---- what `held_in` gives for the two answers of reading
 
 module _ (a : ReadingAnswer) (c : Chart) where
   pub held-done : IsRead a (record { chart = c; answer = read.Done }) → IsHeld a (record { chart = c; number = 0 })
@@ -64,9 +64,9 @@ pub is-front-reading : (buffer : List ℕ) (size : ℕ) → IsReading (readingFr
 unfolding readingFront
 is-front-reading buffer size = front-by (leb size (length buffer)) (reading (take size buffer)) (is-reading (take size buffer))
 
--- ---- what the number tells
+-- ---- what the number means
 
--- 0: a state is taken, and the chart that stands for it is sound
+-- 0: a state is taken, and its chart is sound
 pub record Taken (a : ReadingAnswer) (c : Chart) : Type 0 where
   pub state : State
   pub is : a ≡ taken state
@@ -87,7 +87,7 @@ taken-by (taken s) r h is z =
     }
 taken-by (refused n) r h is z = absurd (r .not-zero (sym (is .number) ∙ z))
 
--- any other: the call is declined by it
+-- any other number: the call is refused with it
 declined-by : {B : Type 0} (a : ReadingAnswer) (next : State → Outcome B) (h : Held) → IsHeld a h → (h .number ≡ 0 → ⊥)
     → andThen (readingOutcome a) next ≡ declined (h .number)
 unfolding readingOutcome numberOf andThen

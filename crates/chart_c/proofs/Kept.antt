@@ -25,7 +25,7 @@ use Rattle.chart_c.specs.Forms.{readingFront, ifRoom, KeepsChart, IsHeld
 use Rattle.chart_c.specs.Calls.{called, stepOutcome, unlessRefused}
 use Rattle.chart_c.proofs.Held.{Taken, is-front-reading, not-held, then-taken}
 
--- ---- what `put_chart` gives of the two answers of writing
+-- ---- what `put_chart` gives for the two answers of writing
 
 wrote-by : (room : Bool) (n size : ℕ) → wrote n ≡ require room (form.refused 15) (wrote size) → (room ≡ true) × (n ≡ size)
 wrote-by true n size e = (refl, cc)
@@ -67,7 +67,7 @@ module _ {A B : Type 0} (put : A → B) (before : B) (o : Outcome A) where
   unfolding lentAfter
   lent-done x e after is = rw e is
 
--- ---- a call that is declined leaves all as it was
+-- ---- a refused call leaves everything as it was
 
 pub keeps-declined : {A : Type 0} (state : A → State) (o : Outcome A) (before : List ℕ) (size n : ℕ) → o ≡ declined n
     → KeepsChart state o before before size size n
@@ -77,7 +77,7 @@ keeps-declined state o before size n e = record { answered = rw e; buffer = rw e
 -- ---- a call that comes to x, and puts its chart into the buffer
 
 module _ {A : Type 0} (state : A → State) (x : A) (before after : List ℕ) (size size' number : ℕ) where
-  -- what is known of the outcome, whether there is room or not
+  -- what is known of the outcome, with room and without
   record ByRoom (o : Outcome A) : Type 0 where
     keeps : KeepsChart state o before after size size' number
     room : number ≡ 0 → o ≡ done x
@@ -116,7 +116,7 @@ module _ {A : Type 0} (state : A → State) (x : A) (before after : List ℕ) (s
       → (number ≡ 0 → ⊥) → o ≡ declined number
   put-short p o e = known p o e .no-room
 
--- ---- a call on bytes that reading declines
+-- ---- a call on bytes that reading refuses
 
 pub not-called : (buffer : List ℕ) (size : ℕ) (h : Held) → IsHeld (readingFront buffer size) h → (h .number ≡ 0 → ⊥) → (call : Call)
     → called buffer size call ≡ declined (h .number)
@@ -126,7 +126,8 @@ not-called buffer size h is ne call =
 
 -- ---- a call on the chart in the buffer
 
--- the call that the library makes, and the one that was asked for, which differ in a number for the kind and come to the same
+-- `call` is the call that was asked for, and `made` the one that the library makes. They may differ in the number of the kind, but they
+-- give the same
 module _ (buffer : List ℕ) (size : ℕ) (c : Chart) (t : Taken (readingFront buffer size) c) (made call : Call)
     (same : step (t .state) made ≡ step (t .state) call) (next : Chart) (answer : Answer) (g : Gives c made next answer) where
   chart-is : next ≡ chartOf (step (t .state) made .state)
@@ -139,7 +140,7 @@ module _ (buffer : List ℕ) (size : ℕ) (c : Chart) (t : Taken (readingFront b
   pub next-sound : soundChart next ≡ true
   next-sound = ap soundChart chart-is ∙ sound-chart-of (step (t .state) made .state) (step-sound (t .state) made (t .state-sound))
 
-  -- the state that it stands for, and the answer, are the machine's
+  -- its state and the answer are the machine's
   abbrev came : Next
   came = record { state = stateOf next; answer = answer }
 

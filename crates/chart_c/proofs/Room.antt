@@ -1,5 +1,5 @@
--- Only a post makes a chart's form longer (`form-not-longer`). So a reanalysis, a correction and a renewal of a form that stands in a
--- buffer have room in it (`room-kept`), and 15 does not occur.
+-- Only a post makes a chart's form longer (`form-not-longer`). So after a reanalysis, a correction or a renewal there is room for the form
+-- in the buffer that held the form before (`room-kept`), and 15 does not occur.
 use mathlib.Core.Path.{_≡_, refl, sym, ap, _∙_}
 use mathlib.Core.Bool.{Bool, true, false}
 use mathlib.Core.List.{List, _∷_, [], _++_}
@@ -32,7 +32,7 @@ use Rattle.guide.proofs.Reading.{length-form, stored-read}
 use Rattle.guide.proofs.Machine.{step-ind}
 use Rattle.chart_c.specs.Forms.{readingFront}
 
--- a post answers word and verdict, and no other call does
+-- only a post answers a word and a verdict
 abbrev isPosted : Answer → Bool
 isPosted (judged w v) = true
 isPosted (reanalysed w passed) = false
@@ -40,7 +40,7 @@ isPosted corrected = false
 isPosted (renewed rounds removed) = false
 isPosted (machine.refused n) = false
 
--- a form is as long as its words ask, whatever kind, status and verdict are
+-- the length of a form depends only on the number of its words
 no-longer : (s t : State) → length (t .base) + length (t .series) ≤ length (s .base) + length (s .series)
     → length (storedForm t) ≤ length (storedForm s)
 no-longer s t h = omega (arith, length-form s, length-form t)

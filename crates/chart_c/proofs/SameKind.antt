@@ -1,5 +1,5 @@
--- Laws of the kinds that callers bring: a number past sixteen bits is no kind, and 0, which stands for it, is none either. So a word, a
--- build and a call come to the same by either.
+-- Laws of the kinds that callers pass. A number of more than sixteen bits is no kind, and 0, which replaces it, is no kind either. So a
+-- word, a build and a call come to the same with both.
 use mathlib.Core.Path.{_≡_, refl, sym, ap, _∙_}
 use mathlib.Core.Bool.{true, false}
 use mathlib.Core.List.{List}
@@ -27,7 +27,7 @@ pub kind-small : (k : ℕ) → k ≤ 65535 → k ≡ kindOf k
 unfolding kindOf
 kind-small k h = rw (le-leb k 65535 h)
 
--- what holds of any number of sixteen bits, and of 0 and a larger number alike
+-- f gives the same for `kindOf k` and for k, if it gives the same for 0 and for every k of more than sixteen bits
 by-size : {B : Type 0} (k : ℕ) (f : ℕ → B) → (65535 < k → f 0 ≡ f k) → f (kindOf k) ≡ f k
 by-size k f large =
     by-test (leb k 65535)

@@ -56,7 +56,7 @@ module _ (text before : List ℕ) where
       let at-front = ap (λ (l : List ℕ). set l (length text) 0) is ∙ string-at-front h in
       record { answered = rw room; buffer = rw room at-front }
 
--- the string of what was shown is the text's
+-- the string made from the function's own buffer is that of the text
 pub string-of : {text buffer before after : List ℕ} {n number : ℕ} → Shown text buffer n → PutsText (take n buffer) before after number
     → PutsText text before after number
 string-of s put = rw (sym (s .same)) put

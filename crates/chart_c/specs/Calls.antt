@@ -45,7 +45,7 @@ pub record BuildsInto (o : Outcome Built) (before after : List ℕ) (size size' 
 
 -- ---- the four calls: 13, 14, then the machine's refusals, and then 15
 
--- what the machine declines is declined by its number
+-- a call that the machine refuses is refused with the machine's number
 unfoldable pub unlessRefused : Answer → Outcome Next → Outcome Next
 unlessRefused (judged w v) o = o
 unlessRefused (reanalysed w passed) o = o
@@ -56,11 +56,11 @@ unlessRefused (refused n) o = declined n
 unfoldable pub stepOutcome : List ℕ → Next → Outcome Next
 stepOutcome buffer next = unlessRefused (next .answer) (ifRoom (λ (n : Next). n .state) buffer next)
 
--- one step of the machine, from the chart that stands in the first `size` bytes of the buffer
+-- one step of the machine, from the chart in the first `size` bytes of the buffer
 unfoldable pub called : List ℕ → ℕ → Call → Outcome Next
 called buffer size call = andThen (readingOutcome (readingFront buffer size)) (λ (s : State). stepOutcome buffer (step s call))
 
--- the parts of an answer; 0 where the answer has no such part
+-- the parts of an answer; 0 if the answer has no such part
 unfoldable pub wordIn : Answer → ℤ
 wordIn (judged w v) = w
 wordIn (reanalysed w passed) = w
@@ -101,7 +101,7 @@ removedIn (refused n) = 0
 abbrev pub KeepsNext : Outcome Next → (before after : List ℕ) → (size size' number : ℕ) → Type 0
 KeepsNext o before after size size' number = KeepsChart (λ (n : Next). n .state) o before after size size' number
 
--- a place that takes a part of the answer
+-- a lent place gets a part of the answer
 abbrev pub Takes : {B : Type 0} → (Answer → B) → Outcome Next → (before after : B) → Type 0
 Takes part o before after = after ≡ lentAfter (λ (n : Next). part (n .answer)) before o
 
@@ -122,12 +122,12 @@ pub record Renews (o : Outcome Next) (before after : List ℕ) (size size' round
   pub of-rounds : Takes roundsIn o rounds rounds'
   pub of-removed : Takes removedIn o removed removed'
 
--- ---- what the functions within give
+-- ---- what the private functions give
 
--- a kind of sixteen bits is itself. Any other number is no chart's kind, and stands as 0, which is none either
+-- a number of sixteen bits stays as it is. A larger number is no chart's kind; it becomes 0, which is no chart's kind either
 unfoldable pub kindOf : ℕ → ℕ
 kindOf n = choose (leb n 65535) n 0
 
--- a reanalysis that the machine does not decline
+-- a reanalysis that the machine does not refuse
 unfoldable pub reanalysedOutcome : List ℕ → State → ℤ → Bool → Outcome Next
 reanalysedOutcome buffer s w passes = ifRoom (λ (n : Next). n .state) buffer (record { state = s; answer = reanalysed w passes })

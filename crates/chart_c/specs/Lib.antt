@@ -1,4 +1,4 @@
--- What the functions of the C interface answer and leave in what is lent to them, by the definitions of `guide`.
+-- What the functions of the C interface answer, and what they leave in the lent places, by the definitions of `guide`.
 pub mod Outcome
 pub mod Forms
 pub mod Calls

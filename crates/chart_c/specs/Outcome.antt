@@ -6,7 +6,7 @@ use Prim.Native.Nat.{ℕ}
 use lib.ListN.{length, drop}
 use Rattle.guide.specs.Choice.{choose}
 
--- it is done, with what it answers, or it is declined by a number
+-- the call is done, with its answer, or it is refused with a number
 pub data Outcome (A : Type 0) : Type 0 where
   done : A → Outcome A
   declined : (number : ℕ) → Outcome A
@@ -16,17 +16,17 @@ unfoldable pub numberOf : {A : Type 0} → Outcome A → ℕ
 numberOf (done x) = 0
 numberOf (declined n) = n
 
--- what a lent place holds afterwards: what the call puts there, or what it held
+-- what a lent place holds afterwards: what the call puts there, or what it held before
 unfoldable pub lentAfter : {A B : Type 0} → (A → B) → B → Outcome A → B
 lentAfter put before (done x) = put x
 lentAfter put before (declined n) = before
 
--- what follows where something is done
+-- what follows if the first part is done
 unfoldable pub andThen : {A B : Type 0} → Outcome A → (A → Outcome B) → Outcome B
 andThen (done x) next = next x
 andThen (declined n) next = declined n
 
--- a lent buffer with a list at its front, and all after it as it was. Where this is used, the list is no longer than the buffer
+-- a lent buffer with a list at its front; the rest is as it was. Wherever this is used, the list is no longer than the buffer
 unfoldable pub atFront : {A : Type 0} → List A → List A → List A
 atFront xs buffer = xs ++ drop (length xs) buffer
 

@@ -1,4 +1,4 @@
--- Lines, a word against them, and the check of a stored form. These calls change no chart: the bytes that are lent are the form.
+-- Lines, a word against them, and the check of a stored form. These calls change no chart. All of the lent bytes are the form.
 use mathlib.Core.Path.{_≡_}
 use mathlib.Core.Bool.{Bool, _&&_}
 use mathlib.Core.List.{List, [], _∷_}
@@ -21,20 +21,20 @@ chartIn bytes = readingOutcome (reading bytes)
 
 -- ---- lines: 13, 14, 15
 
--- "three or five doubles", in the order in which `guide`'s lines have them
+-- "three or five doubles", in the order of the lines in `guide`
 unfoldable pub doublesOf : Lines → List Float
 doublesOf (duplicate mean upperWarning upperControl) = mean ∷ upperWarning ∷ upperControl ∷ []
 doublesOf (twoSided mean lowerWarning upperWarning lowerControl upperControl) =
     mean ∷ lowerWarning ∷ upperWarning ∷ lowerControl ∷ upperControl ∷ []
 
--- a buffer too short for the doubles is declined with 15
+-- a buffer too short for the doubles is refused with 15
 unfoldable pub doublesInto : List Float → List Float → Outcome (List Float)
 doublesInto buffer doubles = require (leb (length doubles) (length buffer)) (declined 15) (done doubles)
 
 unfoldable pub drawn : List ℕ → List Float → Outcome (List Float)
 drawn bytes buffer = andThen (chartIn bytes) (λ (s : State). doublesInto buffer (doublesOf (linesOf (limitsFor s))))
 
--- the doubles go to the front of the buffer, and how many they are is answered
+-- the doubles go to the front of the buffer, and their number into `count`
 pub record Draws (o : Outcome (List Float)) (before after : List Float) (count count' number : ℕ) : Type 0 where
   pub answered : number ≡ numberOf o
   pub buffer : after ≡ lentAfter (λ (doubles : List Float). atFront doubles before) before o
@@ -49,7 +49,7 @@ isWord z = leZ (negℤ (pos 32768)) z && leZ z (pos 32767)
 unfoldable pub flagsOf : BeyondEach → List ℕ
 flagsOf b = flag (b .lowerWarning) ∷ flag (b .upperWarning) ∷ flag (b .lowerControl) ∷ flag (b .upperControl) ∷ []
 
--- what is no word is declined with 7, a buffer of fewer than four bytes with 15
+-- a number that is no word is refused with 7, a buffer of fewer than four bytes with 15
 unfoldable pub comparedInto : List ℕ → ℤ → State → Outcome BeyondEach
 comparedInto buffer w s =
     require (isWord w) (declined 7)

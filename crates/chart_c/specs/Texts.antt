@@ -11,7 +11,7 @@ use Rattle.chart_c.specs.Outcome.{Outcome, done, declined, numberOf, len
 abbrev pub stringOf : List ℕ → List ℕ
 stringOf text = text ++ (0 ∷ [])
 
--- a buffer without room for the text and the 0 byte is declined with 15
+-- a buffer without room for the text and the 0 byte is refused with 15
 unfoldable pub textInto : List ℕ → List ℕ → Outcome (List ℕ)
 textInto buffer text = require (ltb (length text) (length buffer)) (declined 15) (done text)
 

@@ -1,4 +1,4 @@
-// The chart in its stored form, in a lent buffer; and the kinds that callers bring.
+// The chart in its stored form, in a lent buffer; and the kinds that callers pass.
 use chart::Chart;
 use chart::zero_chart;
 use store::ReadAnswer;
@@ -13,13 +13,13 @@ ghost use Rattle.chart.specs.Soundness.{soundChart};
 ghost use Rattle.chart_c.specs.Calls.{kindOf};
 ghost use Rattle.chart_c.specs.Forms.{readingFront, IsHeld, PutsChart};
 
-// The chart that was read, and 0; or the chart of zeros, and the number of the refusal.
+// The chart that was read and 0, or the chart of zeros and the number of the refusal.
 pub struct Held {
     pub chart: Chart,
     pub number: u16,
 }
 
-// The chart whose form the bytes are.
+// The chart whose stored form is these bytes.
 pub fn held_in(bytes: &[u8]) -> Held
     ensures { λ r. ⌜ IsHeld (reading (now (bytes .entry))) r ⌝ }
 {
@@ -32,7 +32,7 @@ pub fn held_in(bytes: &[u8]) -> Held
     }
 }
 
-// The chart whose form the first `size` bytes of a buffer are.
+// The chart whose stored form is the first `size` bytes of a buffer.
 pub fn held_at_front(buffer: &[u8], size: usize) -> Held
     ensures { λ r. ⌜ IsHeld (readingFront (now (buffer .entry)) size) r ⌝ }
 {
@@ -45,7 +45,8 @@ pub fn held_at_front(buffer: &[u8], size: usize) -> Held
     held_in(&buffer[..size])
 }
 
-// The form of a sound chart goes to the front of the buffer, and its size beside it; or 15, and both are as they were.
+// Puts the form of a sound chart at the front of the buffer, and its length into `size`. If there is no room, it answers 15 and leaves both
+// as they were.
 pub fn put_chart(chart: Chart, buffer: &mut [u8], size: &mut usize) -> u16
     requires { ⌜ soundChart chart ≡ true ⌝ }
     ensures { λ r. ⌜ PutsChart (stateOf chart) (now (buffer .entry)) (now (buffer .exit)) (now (size .entry)) (now (size .exit)) r ⌝ }
@@ -60,7 +61,7 @@ pub fn put_chart(chart: Chart, buffer: &mut [u8], size: &mut usize) -> u16
     }
 }
 
-// A number of sixteen bits is itself. Any other is no chart's kind, and stands as 0, which is none either.
+// A number of sixteen bits stays as it is. A larger number is no chart's kind; it becomes 0, which is no chart's kind either.
 pub fn kind_of(kind: u32) -> u16
     ensures { λ r. ⌜ r ≡ kindOf kind ⌝ }
 {

@@ -1,9 +1,9 @@
-// The C interface. Every call of document 01 over numbers and lent buffers, the chart always in its stored form in a buffer that the caller
-// lends: `include/control_chart.h` tells each in plain words, and a change here is a change there.
+// The C interface: every call of document 01, with numbers and lent buffers. The chart is always in its stored form, in a buffer that the
+// caller lends. `include/control_chart.h` explains each function, so a change here needs a change there.
 //
-// Each function answers 0, or the number of a refusal, which leaves everything that was lent as it was. A chart is read from its bytes
-// (13, 14), the call is made (its own numbers, in the paper's order), and the chart after it is written (15). A slice passes as a pointer
-// and a length, a `&mut` number as a pointer.
+// Each function answers 0 or the number of a refusal. A refusal leaves everything that was lent as it was. A function reads the chart from
+// its bytes (13, 14), makes the call (its own numbers, in the paper's order), and writes the chart after it (15). A slice is passed as a
+// pointer and a length, a `&mut` number as a pointer.
 mod forms;
 mod plotting;
 mod strings;
@@ -44,7 +44,7 @@ ghost use Rattle.texts.specs.Texts.{refusalMeaning, verdictMeaning, version};
 ghost use Rattle.chart_c.specs.Plotting.{drawn, Draws, compared, Compares, Checks};
 ghost use Rattle.chart_c.specs.Texts.{PutsText};
 
-// A kind is brought as a number of 32 bits, so that one which sixteen bits do not hold is not cut to a kind on its way here.
+// A kind is passed as a number of 32 bits. So a number that does not fit in sixteen bits is not cut to a valid kind on its way here.
 #[no_mangle]
 pub extern "C" fn control_chart_word(kind: u32, a: i64, b: i64, c: i64, word: &mut i16) -> u16
     ensures { λ r. ⌜ FormsWord (formedOutcome (wordAlone kind a b c)) (now (word .entry)) (now (word .exit)) r ⌝ }
@@ -167,7 +167,7 @@ pub extern "C" fn control_chart_reanalyse(
     }
 }
 
-// What a reanalysis leaves that was not declined; or 15, and all is as it was.
+// Puts the chart and the answer of a reanalysis that was not refused. If there is no room, it answers 15 and leaves everything as it was.
 fn put_reanalysed(
     next: Chart,
     w: i16,
@@ -266,7 +266,7 @@ pub extern "C" fn control_chart_lines(chart: &[u8], lines: &mut [f64], count: &m
     put_lines(lines_of_sound(before), lines, count)
 }
 
-// A word is brought as a number of 32 bits too, and what is no number of sixteen bits is declined with 7.
+// A word is passed as a number of 32 bits too. A number that does not fit in sixteen bits is refused with 7.
 #[no_mangle]
 pub extern "C" fn control_chart_against_lines(chart: &[u8], word: i32, beyond: &mut [u8]) -> u16
     ensures { λ r. ⌜ Compares (compared (now (chart .entry)) word (now (beyond .entry))) (now (beyond .entry)) (now (beyond .exit)) r ⌝ }
@@ -295,7 +295,7 @@ pub extern "C" fn control_chart_check(chart: &[u8]) -> u16
     held.number
 }
 
-// What a number means, as text. The number has 32 bits, as a kind has: one that sixteen bits do not hold is not cut to a refusal's.
+// What a number means, as text. The number has 32 bits, as a kind has, so that a larger number is not cut to that of a refusal.
 #[no_mangle]
 pub extern "C" fn control_chart_refusal_text(number: u32, text: &mut [u8]) -> u16
     ensures { λ r. ⌜ PutsText (refusalMeaning number) (now (text .entry)) (now (text .exit)) r ⌝ }

@@ -8,10 +8,11 @@ ghost use Rattle.lines.specs.Lines.{linesSay, beyondSays};
 ghost use Rattle.chart_c.specs.Outcome.{atFront, flag};
 ghost use Rattle.chart_c.specs.Plotting.{doublesOf, doublesInto, Draws, isWord, flagsOf};
 
-// Whether a word is beyond each limit, a byte for each.
+// One byte for each limit: whether a word is beyond it.
 pub const BEYOND_SIZE: usize = 4;
 
-// The lines' doubles go to the front of the buffer, and how many they are beside it; or 15, and both are as they were.
+// Puts the lines' doubles at the front of the buffer, and their number into `count`. If there is no room, it answers 15 and leaves both as
+// they were.
 pub fn put_lines(lines: Lines, buffer: &mut [f64], count: &mut usize) -> u16
     ensures { λ r.
         ⌜ Draws (doublesInto (now (buffer .entry)) (doublesOf (linesSay lines)))
@@ -70,7 +71,7 @@ pub fn is_word(number: i32) -> bool
     (-32768 <= number) & (number <= 32767)
 }
 
-// 1 for each limit that the word is beyond, and 0 for each other, at the front of the buffer.
+// Puts four bytes at the front of the buffer: 1 for each limit that the word is beyond, 0 for each other one.
 pub fn put_beyond(b: BeyondEach, buffer: &mut [u8])
     requires { ⌜ 4 ≤ length (now buffer) ⌝ }
     ensures { λ _. ⌜ now (buffer .exit) ≡ atFront (flagsOf (beyondSays b)) (now (buffer .entry)) ⌝ }

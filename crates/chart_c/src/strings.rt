@@ -2,10 +2,10 @@
 use crate::plotting::copy_bytes;
 ghost use Rattle.chart_c.specs.Texts.{PutsText};
 
-// Every text of `texts` has room in as many bytes, with its 0 byte. `include/control_chart.h` repeats the number.
+// A buffer of this length has room for every text of `texts` and its 0 byte. `include/control_chart.h` repeats the number.
 pub const TEXT_MOST: usize = 64;
 
-// The text and a 0 byte go to the front of the buffer; or 15, and the buffer is as it was.
+// Puts the text and a 0 byte at the front of the buffer. If there is no room, it answers 15 and leaves the buffer as it was.
 pub fn put_string(text: &[u8], buffer: &mut [u8]) -> u16
     ensures { λ r. ⌜ PutsText (now (text .entry)) (now (buffer .entry)) (now (buffer .exit)) r ⌝ }
 {

@@ -1,6 +1,6 @@
--- The fields of a line from a byte on: the first field and those behind it (`none-found`, `one-found`, `first-field-is`, `fields-behind`),
--- whether it begins a comment (`comment-found`), the number in the first (`number-found`), how much of the line remains behind it
--- (`remaining`), and four numbers one behind the other (`readings-found`).
+-- The fields of a line from a byte on: the first field and those after it (`none-found`, `one-found`, `first-field-is`, `fields-behind`),
+-- whether the first field begins a comment (`comment-found`), the number in it (`number-found`), how much of the line remains after it
+-- (`remaining`), and four numbers one after the other (`readings-found`).
 use mathlib.Core.Path.{_≡_, sym, ap, _∙_}
 use mathlib.Core.Bool.{Bool, true, not}
 use mathlib.Core.List.{List, [], _∷_}
@@ -129,7 +129,7 @@ less-remains {line} n {m} t found =
     (λ s. omega (arith, found .behind s, found .within))
     (λ s. omega arith))
 
--- ---- four numbers, one behind the other
+-- ---- four numbers, one after the other
 
 module _ {line : List ℕ} {at : ℕ} {n₁ n₂ n₃ n₄ : NumberAt} (first : IsNumberAt line at n₁) (second : IsNumberAt line (n₁ .next) n₂)
     (third : IsNumberAt line (n₂ .next) n₃) (fourth : IsNumberAt line (n₃ .next) n₄) where

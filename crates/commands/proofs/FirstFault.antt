@@ -1,4 +1,4 @@
--- The first fault of a line's fields: of a number that is wanted (`fault-found`), of the end (`end-found`), of four numbers
+-- The first fault of a line's fields: of a number that the command takes (`fault-found`), of the end (`end-found`), of four numbers
 -- (`readings-faults`), of hex digits (`read-faults`), and of words, one after the other (`FaultsFrom`).
 use mathlib.Core.Path.{_≡_, refl, sym, ap, _∙_}
 use mathlib.Core.Bool.{true, false}
@@ -40,7 +40,7 @@ module _ {line : List ℕ} {at : ℕ} {n : NumberAt} (found : IsNumberAt line at
   pub end-found : choose (n .present) extraNumber 0 ≡ endFault (fieldsFrom line at)
   end-found = rw (found .present) (end-fault (fieldsFrom line at))
 
--- ---- of four numbers, one behind the other
+-- ---- of four numbers, one after the other
 
 module _ {line : List ℕ} {at : ℕ} {n₁ n₂ n₃ n₄ : NumberAt} (first : IsNumberAt line at n₁) (second : IsNumberAt line (n₁ .next) n₂)
     (third : IsNumberAt line (n₂ .next) n₃) (fourth : IsNumberAt line (n₃ .next) n₄) where
@@ -90,7 +90,7 @@ unfolding wordsFault
 no-word [] t = refl
 no-word (field ∷ fields) t = let s = some-field field fields in let z : _≡_ {A = ℕ} 0 1 = cc in absurd (omega arith)
 
--- n is the number at a place before which no word has a fault: the first fault of all words is that of the words from there on
+-- n is the number at a place, and no word before it has a fault. So the first fault of all words is that of the words from there on
 pub record FaultsFrom (line : List ℕ) (at : ℕ) (n : NumberAt) : Type 0 where
   pub place : ℕ
   pub found : IsNumberAt line place n

@@ -1,4 +1,5 @@
--- Laws of what was put at the front of a buffer: it lies within the buffer (`front-fits`, `front-counted`), and is what was put (`front-is`).
+-- Laws of what was put at the front of a buffer: it fits the buffer (`front-fits`, `front-counted`), and the front is what was put
+-- (`front-is`).
 use mathlib.Core.Path.{_≡_, sym, ap, _∙_}
 use mathlib.Core.List.{List}
 use Prim.Native.Nat.{ℕ, _≤_}

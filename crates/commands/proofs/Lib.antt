@@ -1,5 +1,5 @@
--- The fields of a line, what is wrong with them, the words and the bytes in them, and the commands' names; what a line is; what a command
--- replies, and the room that it takes; that `read` takes what `write` prints.
+-- The fields of a line, their faults, and the words and bytes in them. The commands' names. What a line is. What a command replies, and how
+-- long the reply can be. `read` takes what `write` prints.
 pub mod Fields
 mod FirstFault
 mod WordsPut

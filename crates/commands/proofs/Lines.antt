@@ -1,5 +1,5 @@
--- Laws of the line that a text is: too long (`too-long`), passed over (`no-field`, `a-comment`), with a fault (`a-fault`) and without (`no-fault`); and
--- of the line feed behind a reply (`line-fed`).
+-- Laws of what a line is: too long (`too-long`), passed over (`no-field`, `a-comment`), with a fault (`a-fault`), without a fault
+-- (`no-fault`). A law of the line feed after a reply (`line-fed`).
 use mathlib.Core.Path.{_≡_, refl, ap, _∙_}
 use mathlib.Core.Bool.{true, false}
 use mathlib.Core.List.{List, [], _∷_, _++_}
@@ -24,7 +24,7 @@ pub too-long : (text : List ℕ) → lineMost < length text → lineIn text ≡ 
 unfolding lineIn
 too-long text h = rw (lt-leb (length text) lineMost h)
 
--- a fault, and none
+-- with a fault, and without one
 with-fault : (n : Name) (fields : List (List ℕ)) (fault : ℕ) → fault ≡ faultFor n fields → (fault ≡ 0 → ⊥)
     → namedLine n fields ≡ faulty fault
 unfolding namedLine
@@ -50,7 +50,7 @@ module _ (text : List ℕ) (start end : ℕ) (short : length text ≤ lineMost) 
     unfolding lineOf
     a-comment e = by-fields ∙ ap lineOf (one-found f some) ∙ rw (comment-found f some, e)
 
-    -- a command, by its name and the fault of the fields behind it
+    -- a command, by its name and the fault of the fields after it
     module _ (e : eqb (getD text start 0) 35 ≡ false) (n : Name) (named : n ≡ nameIn (between start end text))
         (fault : ℕ) (found-fault : fault ≡ faultFor n (fieldsOf (drop end text))) where
       a-command : lineIn text ≡ namedLine n (fieldsOf (drop end text))

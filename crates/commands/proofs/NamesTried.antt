@@ -1,4 +1,4 @@
--- The commands' names in the order in which they are tried: a text that is none of the first has its name among the others.
+-- The commands' names in the order in which they are tried. If a text is none of the names tried so far, its name is among the others.
 use mathlib.Core.Path.{_≡_, refl, sym, ap, _∙_}
 use mathlib.Core.Bool.{Bool, true, false}
 use mathlib.Core.List.{List, [], _∷_}
@@ -10,7 +10,7 @@ use Rattle.commands.specs.declared.names.Name.{Name}
 use Rattle.commands.specs.declared.names.Name.the-variants as name
 use Rattle.commands.specs.Command.{nameIn}
 
--- a name as it is written, and which it is
+-- the text of a name, and the name
 pub record Named : Type 0 where
   pub text : List ℕ
   pub name : Name
@@ -33,7 +33,7 @@ abbrev firstOf : List Named → List ℕ → Name
 firstOf [] text = name.Other
 firstOf (this ∷ others) text = choose (sameBytes text (this .text)) (this .name) (firstOf others text)
 
--- the name in the text is the first of these that it is
+-- the name in the text is the first of these names that has this text
 pub record NameAmong (others : List Named) (text : List ℕ) : Type 0 where
   pub is : firstOf others text ≡ nameIn text
 

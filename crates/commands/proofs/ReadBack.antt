@@ -1,4 +1,4 @@
--- The line `read` with the digits that `write` prints of a sound chart is a command without fault, and gives the chart that was written
+-- The line `read` with the digits that `write` prints for a sound chart is a command without fault. It gives the chart that was written
 -- (`read-back`).
 use mathlib.Core.Path.{_≡_, refl, ap, _∙_}
 use mathlib.Core.Bool.{true, false}
@@ -30,7 +30,7 @@ use Rattle.commands.specs.Command.{lineMost, asked, readFault, hexFault,
 use Rattle.commands.specs.Command as command
 use Rattle.commands.specs.Reply.{replyTo, chartRead, chartAfterCommand}
 
--- ---- a hex digit that was printed is one, and stands for what it was printed for
+-- ---- a hex digit that was printed is read as a hex digit, and stands for the number that was printed
 
 record Printed (d : ℕ) : Type 0 where
   is-hex : isHex (hexDigit d) ≡ true
@@ -74,7 +74,7 @@ higher b h = printed (b / 16) (omega arith)
 lower : (b : ℕ) → Printed (b % 16)
 lower b = printed (b % 16) (omega arith)
 
--- ---- so it is with bytes
+-- ---- the same for bytes
 
 hex-is-hex : (bytes : List ℕ) → AllBelow 256 bytes → areHex (hexOf bytes) ≡ true
 unfolding areHex allBytes hexOf
@@ -131,7 +131,7 @@ read-line (b ∷ bytes) h some few =
     let short : length line ≤ lineMost = rw length-append (omega (arith, hex-length (b ∷ bytes))) in
     rw (le-leb (length line) lineMost short) (ap lineOf (fields-are b bytes h) ∙ fields-read b bytes h)
 
--- ---- a sound chart, its arrays as long as its type says: what `write` replies of it, and the line that reads this on any chart
+-- ---- for a sound chart c with arrays as long as its type says: what `write` replies, and the line that reads it back, on any chart
 pub record ReadBack (chart c : Chart) : Type 0 where
   pub written : replyTo c command.write ≡ bytesText (storedForm (stateOf c))
   pub line : lineIn (ascii "read " ++ hexOf (storedForm (stateOf c))) ≡ asked (command.read (storedForm (stateOf c)))

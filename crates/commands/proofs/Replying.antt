@@ -26,7 +26,7 @@ use Rattle.commands.specs.Command as command
 use Rattle.commands.specs.Reply.{chartBuilt, chartRead, replyTo, chartAfterCommand}
 use Rattle.commands.specs.Answers.{Replies, afterBuild, afterRead}
 
--- ---- a call on the chart: what the call answers is replied, and its chart is the chart after it
+-- ---- a call on the chart: the reply is what the call answers, and the chart after it is the one that the call gave back
 
 pub replies-call : (c : Chart) (k : Command) (call : Call) {next : Chart} {answer : Answer} {before after : List ℕ} {size : ℕ}
     → replyTo c k ≡ answerText (answerTo c call) → chartAfterCommand c k ≡ nextChart c call
@@ -38,7 +38,7 @@ replies-call c k call {before = before} {after = after} {size = size} text chart
       text = subst (λ (x : List ℕ). Puts before 0 x after size) (ap answerText (gives .says) ∙ sym text) puts;
     }
 
--- ---- building and reading: "A refused `build` or `read` leaves the chart that was there"
+-- ---- building and reading: a refused `build` or `read` does not change the chart
 
 kept-build : (c built : Chart) (answer : BuildAnswer) (a : BuildingAnswer)
     → built ≡ chartAfter a → buildSays built answer ≡ a → afterBuild c built answer ≡ chartBuilt c a
@@ -50,7 +50,7 @@ kept-build c built (build.Refused n) (guideBuilding.built s r m) chart says =
     let z : _≡_ {A = ℕ} 0 1 = cc in absurd (omega arith)
 kept-build c built (build.Refused n) (guideBuilding.refused m) chart says = refl
 
--- building from a kind and words that are the same
+-- building from equal kinds and equal words
 pub builds-same : {kind k : ℕ} {words ws : List ℤ} {r : Built} → kind ≡ k → words ≡ ws → Builds kind words r → Builds k ws r
 builds-same {k = k} {words = words} {r = r} e f builds =
     subst (λ (x : List ℤ). Builds k x r) f (subst (λ (n : ℕ). Builds n words r) e builds)

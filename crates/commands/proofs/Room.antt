@@ -1,6 +1,6 @@
--- 4,096 bytes are room for every answer (`answer-room`), so a buffer of as many holds all of it (`in-full`). But for those of `lines`, which
--- are read off doubles, the numbers in an answer have at most five digits: words, counts and verdicts by the laws of the paper's
--- definitions, and what `show` shows by the chart's type, whether it is sound or not.
+-- 4,096 bytes are enough for every answer (`answer-room`), so a buffer of that many bytes holds the whole answer (`in-full`). The numbers
+-- in an answer have at most five digits, except those of `lines`, which are read off doubles. For words, counts and verdicts this follows
+-- from the paper's definitions. For what `show` shows it follows from the chart's type, whether the chart is sound or not.
 use mathlib.Core.Path.{_≡_, refl, sym, ap, _∙_}
 use mathlib.Core.Bool.{true}
 use mathlib.Core.List.{List, [], _∷_, _++_, map}

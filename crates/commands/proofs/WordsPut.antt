@@ -29,7 +29,7 @@ no-words (field ∷ fields) t = let s = some-field field fields in let z : _≡_
 
 -- ---- one after the other
 
--- n is the number at a place before which there are `count` words, and the buffer has these at its front
+-- n is the number at a place, and `count` words come before it. The buffer has these words at its front
 pub record WordsPut (line : List ℕ) (at : ℕ) (before words : List ℤ) (count : ℕ) (n : NumberAt) : Type 0 where
   pub place : ℕ
   pub within : place ≤ length line

@@ -1,5 +1,5 @@
--- Laws of the reply to `write`: the form, where it was written (`form-replied`), and 14, which alone can be declined, since the buffer has
--- room for any form (`refusal-replied`).
+-- Laws of the reply to `write`: the form, if it was written (`form-replied`), or the refusal 14 (`refusal-replied`). No other refusal is
+-- possible, because the buffer has room for every form.
 use mathlib.Core.Path.{_≡_, refl, sym, ap, subst}
 use mathlib.Core.Bool.{Bool, true, false}
 use mathlib.Core.List.{List}
@@ -36,7 +36,7 @@ form-small : (c : Chart) → Given c → length (storedForm (stateOf c)) ≤ 814
 unfolding formSize recordSize
 form-small c g = omega (arith, form-size c g, g .within .base-few, g .within .series-few)
 
--- what is declined where there is room
+-- if there is room, the only refusal is 14
 declined-by : (whole room : Bool) (size n : ℕ) → (whole ≡ true → room ≡ true)
     → form.refused n ≡ require whole (form.refused 14) (require room (form.refused 15) (wrote size)) → (whole ≡ false) × (n ≡ 14)
 declined-by true true size n h e = let z : _≡_ {A = ℕ} 0 1 = cc in absurd (omega arith)

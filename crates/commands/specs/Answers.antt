@@ -29,7 +29,7 @@ pub record Answers (c : Chart) (line : Line) (before after : List ℕ) (r : Answ
   pub chart : r .chart ≡ chartAfterLine c line
   pub text : Puts before 0 (answerToLine c line) after (r .size)
 
--- a buffer that has room for every answer holds all of it, and the bytes behind it are as they were
+-- a buffer that has room for every answer holds the whole answer, and the bytes after it do not change
 abbrev pub AnswersInFull : Chart → Line → List ℕ → List ℕ → Answered → Type 0
 AnswersInFull c line before after r = answerMost ≤ length before → PutInFront (answerToLine c line) before after (r .size)
 
@@ -57,11 +57,11 @@ pub record AreReadings (fields : List (List ℕ)) (r : Readings) : Type 0 where
   pub b : r .b ≡ readingOf (firstNumber (drop 2 fields))
   pub c : r .c ≡ readingOf (firstNumber (drop 3 fields))
 
--- the fault of a number that is wanted, as it was found: where there is no field, it is missing
+-- the fault of a number that the command takes. If there is no field, the number is missing
 unfoldable pub faultAt : (FieldNumber → ℕ) → NumberAt → ℕ
 faultAt fault n = require (n .present) missingNumber (fault (numberSays (n .number)))
 
--- the chart after a build on `chart` that gave `built` and this answer; after a read that gave `taken` and this answer
+-- the chart after a build on `chart` that gave `built` and this answer, and the chart after a read that gave `taken` and this answer
 unfoldable pub afterBuild : Chart → Chart → BuildAnswer → Chart
 afterBuild chart built (build.Done rounds removed) = built
 afterBuild chart built (build.Refused n) = chart

@@ -1,4 +1,4 @@
--- The command in a line: the command's name is the line's first field, and the fields behind the name are what it takes.
+-- The command in a line. The line's first field is the command's name, and the fields after the name are what it takes.
 use mathlib.Core.Bool.{Bool, false}
 use mathlib.Core.List.{List, [], _∷_, map}
 use Prim.Native.Nat.{ℕ, zero, suc, _%_}
@@ -16,7 +16,7 @@ use Rattle.printing.specs.Ascii.{ascii}
 use Rattle.replies.specs.Faults.{unknownCommand, missingNumber, extraNumber, notANumber, numberTooLarge, notAHexDigit}
 use Rattle.replies.specs.Faults.{oddHexDigits, lineTooLong, orElse}
 
--- "A line may have 8,191 bytes"
+-- the most bytes of a line
 abbrev pub lineMost : ℕ
 lineMost = 8191
 
@@ -32,42 +32,42 @@ pub data Command : Type 0 where
   read : (bytes : List ℕ) → Command
   show : Command
 
--- what a line is: one that is passed over, since it has no field or its first field begins with `#`; one with a fault; a command
+-- what a line is: passed over, because it has no field or its first field begins with `#`; faulty, with the number of its fault; a command
 pub data Line : Type 0 where
   passedOver : Line
   faulty : ℕ → Line
   asked : Command → Line
 
--- ---- what stands in the fields behind a name
+-- ---- what stands in the fields after a name
 
 abbrev pub firstField : List (List ℕ) → List ℕ
 firstField [] = []
 firstField (field ∷ fields) = field
 
--- the number in the first field; where there is none, no number
+-- the number in the first field. If there is no field, there is no number
 unfoldable pub firstNumber : List (List ℕ) → FieldNumber
 firstNumber fields = numberIn (firstField fields)
 
--- ---- the first fault that is met, from left to right
+-- ---- the first fault, from left to right
 
--- any number is without fault as a kind or a word: one that is no kind, or fits no word, is refused by the call
+-- as a kind or a word, any number is without fault. The call refuses a number that is not a kind, or does not fit a word
 abbrev pub numberFault : FieldNumber → ℕ
 numberFault noNumber = notANumber
 numberFault beyond = 0
 numberFault (whole z) = 0
 
--- "readings are any 64-bit number, and one beyond that is an error"
+-- a reading may be any signed 64-bit number. A number that does not fit is a fault
 abbrev pub readingFault : FieldNumber → ℕ
 readingFault noNumber = notANumber
 readingFault beyond = numberTooLarge
 readingFault (whole z) = 0
 
--- the fault where a number is wanted: it is missing, or what `fault` says of it
+-- the fault of a number that the command takes: it is missing, or it has the fault that `fault` gives
 abbrev pub wantedFault : (FieldNumber → ℕ) → List (List ℕ) → ℕ
 wantedFault fault [] = missingNumber
 wantedFault fault (field ∷ fields) = fault (numberIn field)
 
--- no field is wanted
+-- the command takes no more fields
 abbrev pub endFault : List (List ℕ) → ℕ
 endFault [] = 0
 endFault (field ∷ fields) = extraNumber
@@ -81,7 +81,7 @@ readingsFault fields =
     (orElse (wantedFault readingFault (drop 3 fields))
     (endFault (drop 4 fields)))))
 
--- words, as many as there are
+-- any number of words
 unfoldable pub wordsFault : List (List ℕ) → ℕ
 wordsFault [] = 0
 wordsFault (field ∷ fields) = orElse (numberFault (numberIn field)) (wordsFault fields)
@@ -90,11 +90,11 @@ wordsFault (field ∷ fields) = orElse (numberFault (numberIn field)) (wordsFaul
 unfoldable pub buildFault : List (List ℕ) → ℕ
 buildFault fields = orElse (wantedFault numberFault fields) (wordsFault (drop 1 fields))
 
--- "hex digits of either case, an odd number of them is an error"
+-- hex digits of either case. An odd number of them is a fault
 unfoldable pub hexFault : List ℕ → ℕ
 hexFault text = require (areHex text) notAHexDigit (require (eqb (length text % 2) 0) oddHexDigits 0)
 
--- hex digits, or nothing, which is no digits
+-- hex digits in one field. A missing field counts as no digits
 unfoldable pub readFault : List (List ℕ) → ℕ
 readFault fields = orElse (hexFault (firstField fields)) (endFault (drop 1 fields))
 

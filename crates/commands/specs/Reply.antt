@@ -35,7 +35,7 @@ replyTo chart command.show = stateText (stateOf chart)
 
 -- ---- the chart after it
 
--- "A refused `build` or `read` leaves the chart that was there."
+-- a refused `build` or `read` does not change the chart
 abbrev pub chartBuilt : Chart → BuildingAnswer → Chart
 chartBuilt chart (guideBuilding.built s rounds removed) = chartOf s
 chartBuilt chart (guideBuilding.refused n) = chart
@@ -56,9 +56,9 @@ chartAfterCommand chart command.write = chart
 chartAfterCommand chart (command.read bytes) = chartRead chart (reading bytes)
 chartAfterCommand chart command.show = chart
 
--- ---- of a line
+-- ---- the reply to a line, and the chart after it
 
--- "error: " and what is wrong; the chart stays
+-- the reply to a faulty line is "error: " and what is wrong. The chart does not change
 abbrev pub replyToLine : Chart → Line → List ℕ
 replyToLine chart command.passedOver = []
 replyToLine chart (command.faulty n) = faultText n
@@ -69,12 +69,12 @@ chartAfterLine chart command.passedOver = chart
 chartAfterLine chart (command.faulty n) = chart
 chartAfterLine chart (command.asked c) = chartAfterCommand chart c
 
--- "writes one line for each": a line feed follows the reply; nothing is written for a line that is passed over
+-- a line feed follows the reply. Nothing is written for a line that is passed over
 abbrev pub answerToLine : Chart → Line → List ℕ
 answerToLine chart command.passedOver = []
 answerToLine chart (command.faulty n) = faultText n ++ (10 ∷ [])
 answerToLine chart (command.asked c) = replyTo chart c ++ (10 ∷ [])
 
--- room for every answer (`answer-room` in `proofs/Room`)
+-- this many bytes are enough for every answer (`answer-room` in `proofs/Room`)
 abbrev pub answerMost : ℕ
 answerMost = 4096

@@ -1,4 +1,4 @@
-// The first fault of a line's fields from a byte on, from left to right, or 0.
+// The first fault in the fields of a line from a byte on, from left to right. 0 means no fault.
 use crate::names::Name;
 use crate::numbers::NumberAt;
 use crate::numbers::number_at;
@@ -29,7 +29,7 @@ pub const ODD_HEX_DIGITS: u8 = 7;
 
 pub const LINE_TOO_LONG: u8 = 8;
 
-// The fault of the fields behind a name.
+// The fault of the fields after a name.
 pub fn fault_for(name: Name, line: &[u8], at: usize) -> u8
     requires { ⌜ at ≤ length (now line) ⌝ }
     ensures { λ r. ⌜ r ≡ faultFor name (fieldsFrom (now (line .entry)) at) ⌝ }
@@ -49,7 +49,7 @@ pub fn fault_for(name: Name, line: &[u8], at: usize) -> u8
     }
 }
 
-// A kind and three readings, and nothing more.
+// The command takes a kind and three readings, and nothing more.
 fn readings_fault(line: &[u8], at: usize) -> u8
     requires { ⌜ at ≤ length (now line) ⌝ }
     ensures { λ r. ⌜ r ≡ readingsFault (fieldsFrom (now (line .entry)) at) ⌝ }
@@ -64,7 +64,7 @@ fn readings_fault(line: &[u8], at: usize) -> u8
     or_else(number_fault(kind), fault_behind_kind)
 }
 
-// A kind, and words.
+// The command takes a kind and words.
 fn build_fault(line: &[u8], at: usize) -> u8
     requires { ⌜ at ≤ length (now line) ⌝ }
     ensures { λ r. ⌜ r ≡ buildFault (fieldsFrom (now (line .entry)) at) ⌝ }
@@ -88,7 +88,7 @@ fn words_fault(line: &[u8], at: usize) -> u8
     0
 }
 
-// Hex digits or nothing, and nothing more.
+// The command takes at most one field, of hex digits.
 fn read_fault(line: &[u8], at: usize) -> u8
     requires { ⌜ at ≤ length (now line) ⌝ }
     ensures { λ r. ⌜ r ≡ readFault (fieldsFrom (now (line .entry)) at) ⌝ }
@@ -112,7 +112,7 @@ fn hex_fault(text: &[u8]) -> u8
     0
 }
 
-// A field where none is wanted.
+// The command takes no more fields.
 fn end_fault(line: &[u8], at: usize) -> u8
     requires { ⌜ at ≤ length (now line) ⌝ }
     ensures { λ r. ⌜ r ≡ endFault (fieldsFrom (now (line .entry)) at) ⌝ }
@@ -121,7 +121,7 @@ fn end_fault(line: &[u8], at: usize) -> u8
     if n.present { EXTRA_NUMBER } else { 0 }
 }
 
-// ---- of one number that is wanted
+// ---- the fault of one number that the command takes
 
 fn number_fault(n: NumberAt) -> u8
     ensures { λ r. ⌜ r ≡ faultAt numberFault n ⌝ }

@@ -1,7 +1,7 @@
-// The chart at the bench: a command in a line of text, on a chart, and its answer as text.
+// Commands on a chart. A command is a line of text, and its answer is text.
 //
-// A line is passed over if it has no field or its first field begins with '#'. What is wrong with a line is told in words, and then no call
-// is made. A call that document 01 declines answers `refused` and its number. A refused build or read leaves the chart that was there.
+// A line is passed over if it has no field or its first field begins with '#'. If a line has a fault, the answer says what is wrong, and no
+// call is made. A call that document 01 refuses answers `refused` and its number. A refused build or read does not change the chart.
 mod faults;
 pub mod names;
 mod numbers;
@@ -49,19 +49,20 @@ ghost use Rattle.commands.specs.Answers.{Answers, AnswersInFull, Replies
 // The most bytes of a line.
 pub const LINE_MOST: usize = 8191;
 
-// Room for any answer: `answerMost` in `specs/Reply`. A chart's words, each of at most six characters and a blank, take less than 3,000 bytes.
+// Enough bytes for every answer: `answerMost` in `specs/Reply`. A chart's words, of at most six characters and a blank each, take less than
+// 3,000 bytes.
 pub const ANSWER_MOST: usize = 4096;
 
-// Room for any stored form, which has at most 814 bytes.
+// Enough bytes for every stored form, which has at most 814.
 const FORM_ROOM: usize = 1024;
 
 pub struct Answered {
     pub chart: Chart,
-    // The bytes of the answer, which ends in a line feed; 0 where the line is passed over.
+    // The number of bytes of the answer, which ends in a line feed. It is 0 if the line is passed over.
     pub size: usize,
 }
 
-// Does the command of a line, and puts its answer at the front of a buffer. A buffer of 4,096 bytes or more has room for all of it.
+// Runs the command of a line, and puts its answer at the front of a buffer. A buffer of 4,096 bytes or more has room for every answer.
 pub fn answer_line(chart: Chart, line: &[u8], out: &mut [u8]) -> Answered
     ensures { λ r. ⌜ Answers chart (lineIn (now (line .entry))) (now (out .entry)) (now (out .exit)) r ⌝ }
     ensures { λ r. ⌜ AnswersInFull chart (lineIn (now (line .entry))) (now (out .entry)) (now (out .exit)) r ⌝ }
@@ -89,7 +90,7 @@ pub fn answer_line(chart: Chart, line: &[u8], out: &mut [u8]) -> Answered
     Answered { chart: after, size }
 }
 
-// Whether the line's command is `build`, which makes a chart where there is none.
+// Whether the line's command is `build`, which can make a chart if there is none.
 pub fn is_build(line: &[u8]) -> bool
     ensures { λ r. ⌜ r ≡ isBuild (now (line .entry)) ⌝ }
 {
@@ -99,7 +100,7 @@ pub fn is_build(line: &[u8]) -> bool
     same_bytes(&line[start..end], b"build")
 }
 
-// What is wrong with a line; the chart stays.
+// Answers what is wrong with a line. The chart does not change.
 fn answer_fault(chart: Chart, fault: u8, out: &mut [u8]) -> Answered
     ensures { λ r. ⌜ Answers chart (faulty fault) (now (out .entry)) (now (out .exit)) r ⌝ }
 {
@@ -108,7 +109,7 @@ fn answer_fault(chart: Chart, fault: u8, out: &mut [u8]) -> Answered
     Answered { chart, size }
 }
 
-// The command of this name, with the fields from a byte on.
+// Runs the command with this name. It takes the fields from a byte on.
 fn perform(chart: Chart, name: Name, line: &[u8], at: usize, out: &mut [u8]) -> Answered
     requires { ⌜ (at ≤ length (now line)) × (length (now line) ≤ lineMost) ⌝ }
     ensures { λ r. ⌜ Replies chart (commandFor name (fieldsFrom (now (line .entry)) at)) (now (out .entry)) (now (out .exit)) r ⌝ }
@@ -161,7 +162,7 @@ fn build(chart: Chart, line: &[u8], at: usize, out: &mut [u8]) -> Answered
     Answered { chart: after, size }
 }
 
-// A refused build leaves the chart that was there.
+// A refused build does not change the chart.
 fn chart_built(chart: Chart, built: Chart, answer: BuildAnswer) -> Chart
     ensures { λ r. ⌜ r ≡ afterBuild chart built answer ⌝ }
 {
@@ -233,7 +234,7 @@ fn read(chart: Chart, line: &[u8], at: usize, out: &mut [u8]) -> Answered
     Answered { chart: after, size }
 }
 
-// A refused read leaves the chart that was there.
+// A refused read does not change the chart.
 fn chart_read(chart: Chart, taken: Chart, answer: ReadAnswer) -> Chart
     ensures { λ r. ⌜ r ≡ afterRead chart taken answer ⌝ }
 {
@@ -243,7 +244,7 @@ fn chart_read(chart: Chart, taken: Chart, answer: ReadAnswer) -> Chart
     }
 }
 
-// ---- commands that leave it
+// ---- commands that do not change the chart
 
 fn word(line: &[u8], at: usize, out: &mut [u8]) -> usize
     requires { ⌜ at ≤ length (now line) ⌝ }

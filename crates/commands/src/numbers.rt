@@ -1,4 +1,4 @@
-// The numbers that stand in the fields of a line from a byte on.
+// The numbers in the fields of a line from a byte on.
 use parsing::fields::first_field;
 use parsing::numbers::Number;
 use parsing::numbers::kind_of;
@@ -64,7 +64,7 @@ pub fn readings_at(line: &[u8], at: usize) -> Readings
     }
 }
 
-// The numbers of the fields as words, at the front of a buffer. Answers how many they are.
+// Puts the numbers of the fields, as words, at the front of a buffer. Answers how many they are.
 pub fn put_words_at(line: &[u8], at: usize, words: &mut [i16]) -> usize
     requires { ⌜ (at ≤ length (now line)) × (length (now line) ≤ length (now words)) ⌝ }
     ensures { λ r. ⌜ PutInFront (wordsIn (fieldsFrom (now (line .entry)) at)) (now (words .entry)) (now (words .exit)) r ⌝ }

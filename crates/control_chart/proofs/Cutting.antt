@@ -1,5 +1,5 @@
--- A line that has ended, as the program finds it (`ended-line`). One that is longer than the buffer is too long, whether it is cut or not
--- (`cut-line`).
+-- A line that has ended, as the program finds it (`ended-line`). A line that is longer than the buffer is too long, whether it is cut or
+-- not (`cut-line`).
 use mathlib.Core.Path.{_≡_, sym, ap, _∙_}
 use mathlib.Core.List.{List, [], _∷_}
 use Prim.Native.Nat.{ℕ, suc, _+_, _-_, _<_, _≤_}
@@ -25,7 +25,7 @@ ended-line line n at end front =
     let text = take n line in
     ap lineIn (take-all (length text - at) (drop at text) (omega (arith, length-drop at text)) ∙ front .same ∙ ap withoutMark (end .same))
 
--- no more than one byte is taken off
+-- at most one byte is passed over
 without-return-length : (line : List ℕ) → length line ≤ suc (length (withoutReturn line))
 unfolding withoutReturn
 without-return-length [] = omega arith
@@ -33,7 +33,7 @@ without-return-length (b ∷ []) =
     choose-ind (λ (left : List ℕ). 1 ≤ suc (length left)) (eqb b 13) [] (b ∷ []) (λ _. omega arith) (λ _. omega arith)
 without-return-length (b ∷ next ∷ rest) = omega (arith, without-return-length (next ∷ rest))
 
--- .. and with the mark no more than four
+-- .. and with the mark at most four
 too-long : (line : List ℕ) → lineMost + 4 < length line → endedLine line ≡ faulty lineTooLong
 unfolding endedLine lineIn
 too-long line h =

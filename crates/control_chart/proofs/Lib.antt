@@ -1,4 +1,4 @@
--- Laws of places within buffers, of a line that has ended and one that is cut, and of the input as it is taken.
+-- Laws of places in buffers, of a line that has ended or is cut, and of the input as the program takes it.
 mod Places
 mod Cutting
 mod Taking

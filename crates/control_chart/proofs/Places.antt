@@ -1,5 +1,5 @@
--- Laws of places within buffers: a place that counts the bytes before it (`counts`), text put (`text-counts`), and the byte behind a line
--- feed (`behind-feed`).
+-- Laws of places in buffers: a place counts the bytes before it (`counts`), also after a text was put (`text-counts`); and the place after
+-- a line feed (`behind-feed`).
 use mathlib.Core.Path.{_≡_, sym}
 use mathlib.Core.List.{List}
 use Prim.Native.Nat.{ℕ, _+_, _≤_, _<_}
@@ -20,7 +20,7 @@ counts n xs h = (h, sym (length-take-le n xs h))
 pub text-counts : {before after x : List ℕ} {at next : ℕ} → at ≤ length before → Puts before at x after next → Counts next after
 text-counts {after = after} {next = next} h puts = counts next after (puts-within h puts)
 
--- it is behind where the line began, and within the bytes
+-- it lies after the place where the line began, and within the bytes
 pub behind-feed : (at end n r : ℕ) → at ≤ end → end ≤ n → at < n → r ≡ choose (ltb end n) (end + 1) end → (at < r) × (r ≤ n)
 behind-feed at end n r from to some e =
     let goal : (at < choose (ltb end n) (end + 1) end) × (choose (ltb end n) (end + 1) end ≤ n) =

@@ -1,6 +1,6 @@
--- The input as the program takes it: bytes up to a line feed are a part of the line (`turn`), what is held of the line follows
--- (`held-part`, `held-end`), at the end of the input too (`held-none`, `held-last`), and one read follows the other (`more-came`,
--- `last-came`). After an answer that was not written only the chart is left (`held-told`, `unless-told`).
+-- The input as the program takes it. The bytes up to a line feed are a part of the line (`turn`). What the program holds follows the
+-- definitions: after a part of a line (`held-part`, `held-end`), at the end of the input (`held-none`, `held-last`), and from one read to
+-- the next (`more-came`, `last-came`). If every answer was written, nothing is dropped (`held-told`, `unless-told`).
 use mathlib.Core.Path.{_≡_, refl, sym, ap, _∙_}
 use mathlib.Core.Bool.{Bool, true, false, not, false≢true}
 use mathlib.Core.List.{List, [], _∷_, _++_, append-assoc, append-nil}
@@ -73,7 +73,7 @@ byte-kept : (s : SoFar) (b : ℕ) → eqb b 10 ≡ false → withByte s b ≡ go
 unfolding withByte withPart
 byte-kept s b t = rw t
 
--- .. so the bytes before a line feed do
+-- .. so the bytes before a line feed belong to it
 before-feed : (s : SoFar) (xs : List ℕ) → let part = take (indexOf 10 xs) xs in withBytes s part ≡ withPart s part false
 unfolding withBytes withPart
 before-feed s [] = rw take-nil (ap (goingOn s) (sym (append-nil (s .line))))
@@ -121,9 +121,9 @@ turn s bytes at end next h found behind =
     let behind = rw test at behind in
     rw (test, size) (more-bytes s bytes at (suc k) next (omega arith) ∙ feed-ends before xs (omega (arith, length-drop at bytes))))
 
--- ---- what is held of the line
+-- ---- what the program holds of the line
 
--- where every answer was written, nothing has failed
+-- if every answer was written, nothing has failed
 was-told : (s : SoFar) (told : Bool) → told ≡ true → unlessFailed (not told) s ≡ s
 unfolding unlessFailed
 was-told s told e = ap (λ (t : Bool). unlessFailed (not t) s) e
@@ -139,7 +139,7 @@ module _ {s : SoFar} {q : Pending} {buffer : List ℕ} (told : q .told ≡ true)
   pub held-told : Holds (unlessFailed (not (q .told)) s) q buffer → Holds s q buffer
   held-told held = rw (was-told s (q .told) told) at held
 
--- the line has ended, as it was held
+-- the line that has ended is the same, whole or cut to the buffer
 ended-same : {bytes : List ℕ} {n : ℕ} (s : SoFar) (p : Pending) (line : List ℕ) → p .chart ≡ s .chart → p .status ≡ s .status
     → bytes ≡ take n line → lineRoom ≤ n → afterLine (p .chart) (p .status) (endedLine bytes) ≡ afterEnded s line
 unfolding afterEnded
@@ -167,7 +167,7 @@ after-held s r buffer empty after =
       status = after .status ∙ ap (λ (told : Bool). choose told (s .status) 3) t;
     }))
 
--- a front that was cut may be cut before or after
+-- the front of two lists: cutting the first list before joining them changes nothing
 cut-front : (n : ℕ) (x y : List ℕ) → take n (take n x ++ y) ≡ take n (x ++ y)
 cut-front n x y =
     by-order n (length x)

@@ -8,7 +8,7 @@ use lib.ListN.{length, getD}
 abbrev pub slashCode : ℕ
 slashCode = 47
 
--- the path's first n bytes are up to its last '/', with it; n is 0 where it has none
+-- the path's first n bytes end with its last '/'; n is 0 if it has no '/'
 pub record IsFolder (path : List ℕ) (n : ℕ) : Type 0 where
   pub within : n ≤ length path
   pub slash : 0 < n → getD path (n - 1) 0 ≡ slashCode

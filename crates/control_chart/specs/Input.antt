@@ -1,5 +1,5 @@
--- The input, byte by byte: the chart after the lines that have ended, the bytes of the line that has begun, and the exit status of the answers
--- so far. How it comes in reads makes no difference (`reads-joined` in `proofs/Taking`).
+-- The input, byte by byte: the chart after the lines that have ended, the bytes of the line that has begun, and the exit status of the
+-- answers so far. It makes no difference how reads divide the input (`reads-joined` in `proofs/Taking`).
 use mathlib.Core.Path.{_≡_}
 use mathlib.Core.Bool.{Bool, true, false, not}
 use mathlib.Core.List.{List, [], _∷_, _++_}
@@ -29,18 +29,18 @@ soFar chart line status = record { chart = chart; line = line; status = status }
 abbrev pub atStart : SoFar
 atStart = soFar zeroChart [] 0
 
--- the line of bytes that have ended: a carriage return at its end, then a mark at its front, are passed over
+-- the bytes of a line that has ended, as a line: a carriage return at the end, then a byte order mark at the front, are passed over
 unfoldable pub endedLine : List ℕ → Line
 endedLine bytes = lineIn (withoutMark (withoutReturn bytes))
 
--- after a line on the chart, with the status before: the next line begins. Of several answers the highest status counts
+-- after a line, from the chart and the status before it: the next line begins. Of several answers the highest status counts
 unfoldable pub afterLine : Chart → ℕ → Line → SoFar
 afterLine chart status line = soFar (chartAfterLine chart line) [] (max status (statusOf (answerToLine chart line)))
 
 unfoldable pub afterEnded : SoFar → List ℕ → SoFar
 afterEnded s bytes = afterLine (s .chart) (s .status) (endedLine bytes)
 
--- a part of the line that has begun, and whether the line ends behind it; then the next begins
+-- a further part of the line that has begun. If the line ends after this part, the next line begins
 unfoldable pub withPart : SoFar → List ℕ → Bool → SoFar
 withPart s part ends =
     let line = s .line ++ part in
@@ -54,17 +54,17 @@ unfoldable pub withBytes : SoFar → List ℕ → SoFar
 withBytes s [] = s
 withBytes s (b ∷ bytes) = withBytes (withByte s b) bytes
 
--- where a read failed or an answer was not written, that is an error (3), and a line that had begun is left out
+-- if a read failed or an answer was not written, the status is 3 (error), and a line that has begun is dropped
 unfoldable pub unlessFailed : Bool → SoFar → SoFar
 unlessFailed failed s = choose failed (soFar (s .chart) [] 3) s
 
--- the end of the input: a last line without a line feed has ended too. Where there is none, the line is empty, and is passed over
+-- the end of the input: it also ends a last line without a line feed. If there is no such line, the line is empty and is passed over
 unfoldable pub atEnd : SoFar → SoFar
 atEnd s = afterEnded s (s .line)
 
--- ---- what the program holds of it: the chart, as much of the line as its buffer has room for, and the status
+-- ---- what the program holds: the chart, as much of the line as its buffer has room for, and the status
 
--- room for the longest line, a mark, a carriage return, and one byte by which a longer line is known
+-- room for the longest line, a byte order mark, a carriage return, and one more byte: a line that fills all of it is too long
 abbrev pub lineRoom : ℕ
 lineRoom = lineMost + 5
 
@@ -80,7 +80,7 @@ Follows change p before q after = (s : SoFar) → Holds s p before → Holds (un
 
 -- ---- what the program's functions ask and give
 
--- what is pending lies within the buffer, which has room to tell a line that is too long
+-- the pending bytes lie within the buffer, and the buffer has room enough to show that a line is too long
 pub record HasRoom (p : Pending) (buffer : List ℕ) : Type 0 where
   pub within : p .len ≤ length buffer
   pub enough : lineRoom ≤ length buffer
@@ -96,7 +96,7 @@ pub record IsAfter (s : SoFar) (r : Pending) : Type 0 where
   pub none : r .len ≡ 0
   pub status : r .status ≡ choose (r .told) (s .status) 3
 
--- .. the line itself, and with what is passed over
+-- .. if the line stands as it is, and if a carriage return and a mark are still to be passed over
 abbrev pub Answers : Pending → List ℕ → Pending → Type 0
 Answers p line r = IsAfter (afterLine (p .chart) (p .status) (lineIn line)) r
 
@@ -109,26 +109,26 @@ pub record Taken (bytes : List ℕ) (p : Pending) (before : List ℕ) (q : Pendi
   pub all : q .told ≡ true → take count bytes ≡ bytes
   pub follows : Follows (λ s. withBytes s (take count bytes)) p before q after
 
--- bytes came, and then perhaps a read failed or an answer was not written. Which bytes, only the system knows
+-- bytes came, and then perhaps a read failed or an answer was not written. Only the system knows which bytes
 pub record Came (p : Pending) (before : List ℕ) (q : Pending) (after : List ℕ) : Type 0 where
   pub bytes : List ℕ
   pub failed : Bool
   pub follows : (s : SoFar) → Holds s p before → Holds (unlessFailed failed (withBytes s bytes)) q after
 
--- one read; where it is not the last, nothing has failed, and every answer was written
+-- one read; if it is not the last, nothing has failed, and every answer was written
 pub record IsRead (p : Pending) (before : List ℕ) (r : AfterRead) (after : List ℕ) : Type 0 where
   pub came : Came p before (r .pending) after
   pub goes-on : r .more ≡ true → came .failed ≡ false
   pub told : r .more ≡ true → r .pending .told ≡ true
 
--- what stands at the end, unless the last answer was not written
+-- what the program holds at the end: s, but with status 3 if the last answer was not written
 pub record IsEnd (s : SoFar) (r : Pending) : Type 0 where
   pub lost : Bool
   pub not-told : lost ≡ true → r .told ≡ false
   pub chart : r .chart ≡ s .chart
   pub status : r .status ≡ choose lost 3 (s .status)
 
--- for every s that is held, what stands at its end
+-- for every s: if p holds s before, r is what the program holds at the end of the input
 abbrev pub GivesAtEnd : Pending → List ℕ → Pending → Type 0
 GivesAtEnd p buffer r = (s : SoFar) → Holds s p buffer → IsEnd (atEnd s) r
 

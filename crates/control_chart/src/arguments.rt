@@ -11,7 +11,7 @@ ghost use Rattle.guide.specs.Choice.{choose};
 ghost use Rattle.printing.specs.Output.{Puts};
 ghost use Rattle.printing.specs.Decimal.{spaceCode};
 
-// The arguments from the first one on, with a blank between two, as a line. Answers its length.
+// Puts the arguments from `first` on into a line, with a blank between two. Answers the line's length.
 pub fn join_arguments(first: usize, count: usize, line: &mut [u8]) -> usize
     ensures { λ r. ⌜ Counts r (now (line .exit)) ⌝ }
 {
@@ -24,7 +24,7 @@ pub fn join_arguments(first: usize, count: usize, line: &mut [u8]) -> usize
     at
 }
 
-// An argument that is longer than a line fills the buffer, by which the line is too long.
+// An argument that is longer than a line gives a line as long as the buffer, which is too long.
 fn put_argument(i: usize, line: &mut [u8], at: usize) -> usize
     requires { ⌜ at ≤ length (now line) ⌝ }
     ensures { λ r. ⌜ r ≤ length (now (line .exit)) ⌝ }
@@ -38,7 +38,7 @@ fn put_argument(i: usize, line: &mut [u8], at: usize) -> usize
     put_text(line, next, &argument[..n])
 }
 
-// A blank between two arguments; none in front of the first.
+// Puts a blank between two arguments, and none in front of the first.
 fn put_blank(line: &mut [u8], at: usize) -> usize
     ensures { λ r. ⌜ Puts (now (line .entry)) at (choose (eqb at 0) [] (spaceCode ∷ [])) (now (line .exit)) r ⌝ }
 {

@@ -1,6 +1,6 @@
-// One command on the chart that a file holds. What it comes to is `outcomes::on_file`'s; here bytes are moved, in this order where the command
-// may change the chart: the lock is made, the file is read, the command is done, the lock is filled and renamed over the file, and then the
-// answer is said.
+// One command on the chart that a file holds. `outcomes::on_file` decides what the command comes to; here only bytes are moved. If the
+// command may change the chart, the order is this: the lock is made, the file is read, the command is done, the lock is filled and renamed
+// over the file, and then the answer is said.
 use crate::arguments::join_arguments;
 use crate::input::LINE_ROOM;
 use crate::lock::put_lock_name;
@@ -21,11 +21,12 @@ use outcomes::names::may_change;
 use outcomes::on_file;
 use outcomes::status::exit_status;
 use system::Permissions;
+ghost use Rattle.control_chart.specs.Status.{StatusBy};
 
 // More than the longest stored form, which has 814 bytes.
 const FILE_ROOM: usize = 1024;
 
-// The command of the arguments from the first one on. Answers the exit status.
+// Does the command that begins with the argument `first`. Answers the exit status.
 pub fn command_on_file(path: &[u8], first: usize, count: usize) -> u8 {
     let mut line = [0u8; LINE_ROOM];
     let len = join_arguments(first, count, &mut line);
@@ -38,7 +39,7 @@ pub fn command_on_file(path: &[u8], first: usize, count: usize) -> u8 {
     look_at_file(path, &line[..len])
 }
 
-// A command's name, where a file's is wanted and none is there.
+// Whether the path is a command's name, and there is no file of that name.
 fn is_command_alone(path: &[u8]) -> bool {
     if is_name(path) {
         return system::access(path, libc::F_OK) != 0;
@@ -58,7 +59,8 @@ fn look_at_file(path: &[u8], line: &[u8]) -> u8 {
     say_look(path, read.there, &held[..n], line)
 }
 
-// A command that may not change the chart never asks for a new form (`only-read` in `outcomes/proofs/Files`), so the last arm is not met.
+// The last arm is never reached. A command that may not change the chart never changes the file (`only-read` in `outcomes/proofs/Files`),
+// and the buffer has room for every form (`room-enough`).
 fn say_look(path: &[u8], there: bool, held: &[u8], line: &[u8]) -> u8 {
     let mut form = [0u8; FILE_ROOM];
     let mut out = [0u8; ANSWER_MOST];
@@ -75,7 +77,9 @@ fn say_look(path: &[u8], there: bool, held: &[u8], line: &[u8]) -> u8 {
     }
 }
 
-fn answer(path: &[u8], text: &[u8]) -> u8 {
+fn answer(path: &[u8], text: &[u8]) -> u8
+    ensures { λ r. ⌜ StatusBy (now (text .entry)) r ⌝ }
+{
     if say(text) {
         return exit_status(text);
     }
@@ -103,7 +107,7 @@ fn change_file(path: &[u8], line: &[u8]) -> u8 {
     change_locked(path, &name[..n], fd, line)
 }
 
-// Whether this user may write the file, or there is none.
+// Whether this user may write the file, or there is no file.
 fn may_be_written(path: &[u8]) -> bool {
     if system::access(path, libc::W_OK) == 0 {
         return true;
@@ -111,7 +115,7 @@ fn may_be_written(path: &[u8]) -> bool {
     os::errno() == libc::ENOENT
 }
 
-// The lock is this process's.
+// This process has the lock.
 fn change_locked(path: &[u8], lock: &[u8], fd: i32, line: &[u8]) -> u8 {
     let mut held = [0u8; FILE_ROOM];
     let read = read_file(path, &mut held);
@@ -125,7 +129,7 @@ fn change_locked(path: &[u8], lock: &[u8], fd: i32, line: &[u8]) -> u8 {
     change_held(path, lock, fd, permissions, read.there, &held[..n], line)
 }
 
-// The buffer has room for every form (`room-enough` in `outcomes/proofs/Files`), so the last arm is not met.
+// The last arm is never reached, because the buffer has room for every form (`room-enough` in `outcomes/proofs/Files`).
 fn change_held(
     path: &[u8],
     lock: &[u8],
@@ -161,15 +165,10 @@ fn change_held(
     }
 }
 
-// The new form into the file, then the answer.
-fn keep(
-    path: &[u8],
-    lock: &[u8],
-    fd: i32,
-    permissions: Permissions,
-    form: &[u8],
-    text: &[u8],
-) -> u8 {
+// Puts the new form into the file, then says the answer.
+fn keep(path: &[u8], lock: &[u8], fd: i32, permissions: Permissions, form: &[u8], text: &[u8]) -> u8
+    ensures { λ r. ⌜ StatusBy (now (text .entry)) r ⌝ }
+{
     if !replace_file(path, lock, fd, permissions, form) {
         return ERROR;
     }

@@ -22,7 +22,7 @@ pub fn say_version() -> u8 {
     ended(say(b"\n"))
 }
 
-// The exit status after the last of a text.
+// The exit status, by whether the last line of a text was written.
 fn ended(written: bool) -> u8 {
     if written {
         return 0;
@@ -67,18 +67,18 @@ fn say_files() {
         b"A command that may change the chart makes FILE.lock, so that one works at a time, and replaces FILE whole or not\n",
     );
     say(
-        b"at all. A killed command leaves FILE.lock and was not done: remove FILE.lock and repeat the command.\n",
+        b"at all. A killed command leaves FILE.lock and was not done: if no command is at work, remove FILE.lock and repeat.\n",
     );
 }
 
 fn say_commands() {
     say(b"command             answer\n");
-    say(b"word K A B C        word W                         the word of a reading, for a base\n");
+    say(b"word K A B C        word W                         the word of readings, for a base\n");
     say(
         b"build K W1 .. Wn    built rounds R removed M       a new chart from 15 to 32 words; what was posted before is gone\n",
     );
-    say(b"post K A B C        word W verdict V               a new point, judged\n");
-    say(b"reanalyse K A B C   word W passed | word W failed  in place of the last point\n");
+    say(b"post K A B C        word W verdict V               a new word, judged\n");
+    say(b"reanalyse K A B C   word W passed | word W failed  in place of the last word\n");
     say(b"correct             corrected                      the method was put right\n");
     say(b"renew               renewed rounds R removed M     a new base from the last 15 words\n");
     say(
@@ -91,7 +91,7 @@ fn say_commands() {
     );
     say(b"show                chart kind K status S verdict V base N W1 .. WN series M W1 .. WM\n");
     say(
-        b"any, declined       refused N                      nothing changed; a refused build or read leaves the chart\n",
+        b"any, refused        refused N                      nothing changed; a refused build or read leaves the chart\n",
     );
     say(
         b"anything else       error: ..                      what is wrong and what to do; nothing changed\n\n",
@@ -100,8 +100,8 @@ fn say_commands() {
 
 fn say_numbers() {
     say(b"Kinds and readings, in the method's smallest digit (0.123 at three decimals is 123):\n");
-    say(b"1 duplicate  A and B are the two results; C is ignored\n");
-    say(b"2 check      A was found, B was made up; C is ignored\n");
+    say(b"1 duplicate  A and B are the two results; C is ignored: give 0\n");
+    say(b"2 check      A was found, B was made up; C is ignored: give 0\n");
     say(b"3 spike      A is the spiked sample, B the unspiked one, C what was added\n\n");
     say_verdicts();
     say(
@@ -144,7 +144,7 @@ fn say_refusal(number: u32) {
     say_meaning(number, &meaning[..length]);
 }
 
-// A line: the number, in two columns, and what it means.
+// Says a line: the number, two columns wide, and what it means.
 fn say_meaning(number: u32, meaning: &[u8]) {
     let mut digits = [0u8; ROOM];
     let length = put_decimal(&mut digits, 0, number as u64);

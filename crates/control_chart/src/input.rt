@@ -23,12 +23,12 @@ ghost use Rattle.control_chart.specs.Input.{Came, Taken, IsRead, IsAtEnd
 // `lineRoom` in `specs/Input`.
 pub const LINE_ROOM: usize = LINE_MOST + 5;
 
-// What stands after some of the input.
+// What the program holds after a part of the input.
 pub struct Pending {
     pub chart: Chart,
-    // How many bytes have come of a line that has not ended.
+    // How many bytes the buffer holds of a line that has not ended.
     pub len: usize,
-    // The highest exit status of the answers; 3 where one was not written.
+    // The highest exit status of the answers; 3 if a read failed or an answer was not written.
     pub status: u8,
     // Whether every answer was written. If not, no further command is done.
     pub told: bool,
@@ -40,7 +40,7 @@ struct AfterRead {
     pending: Pending,
 }
 
-// Does the commands of standard input, from the chart of zeros. Answers what stands at its end.
+// Does the commands on standard input, from the chart of zeros. Answers what the program holds at the end of the input.
 pub fn commands_from_input() -> Pending
     ensures { λ r. ⌜ IsAtEnd r ⌝ }
 {
@@ -55,7 +55,7 @@ pub fn commands_from_input() -> Pending
     end_input(last, &line)
 }
 
-// Reads to the end of the input. Nothing says that it ends, so the reads are counted: 2^63 of them are more than any input needs.
+// Reads to the end of the input. No contract says that the input ends, so the loop counts its reads: 2^63 are more than any input needs.
 fn take_all(pending: Pending, line: &mut [u8]) -> Pending
     requires { ⌜ CanTake pending (now line) ⌝ }
     ensures { λ r. ⌜ r .len ≤ length (now (line .exit)) ⌝ }
@@ -74,7 +74,7 @@ fn take_all(pending: Pending, line: &mut [u8]) -> Pending
     kept
 }
 
-// A last line that has no line feed.
+// Answers a last line that has no line feed.
 fn end_input(pending: Pending, line: &[u8]) -> Pending
     requires { ⌜ HasRoom pending (now line) ⌝ }
     ensures { λ r. ⌜ GivesAtEnd pending (now (line .entry)) r ⌝ }
@@ -86,7 +86,7 @@ fn end_input(pending: Pending, line: &[u8]) -> Pending
     end_line(pending, &line[..n])
 }
 
-// One read. Where it fails, a line that had begun is left out: its end is not known.
+// One read. If it fails, a line that has begun is dropped, because its end is not known.
 fn read_some(pending: Pending, line: &mut [u8]) -> AfterRead
     requires { ⌜ CanTake pending (now line) ⌝ }
     ensures { λ r. ⌜ r .pending .len ≤ length (now (line .exit)) ⌝ }
@@ -119,7 +119,7 @@ fn read_some(pending: Pending, line: &mut [u8]) -> AfterRead
     }
 }
 
-// Bytes that came: each line that ends among them is answered, and the rest is kept. It stops behind an answer that was not written.
+// Takes bytes that were read. Answers each line that ends in them, and keeps the rest. Stops after an answer that was not written.
 fn take_bytes(pending: Pending, bytes: &[u8], line: &mut [u8]) -> Pending
     requires { ⌜ CanTake pending (now line) ⌝ }
     ensures { λ r. ⌜ r .len ≤ length (now (line .exit)) ⌝ }
@@ -138,14 +138,14 @@ fn take_bytes(pending: Pending, bytes: &[u8], line: &mut [u8]) -> Pending
     kept
 }
 
-// The byte behind a line feed; where none came, the end of the bytes.
+// The place after the line feed; if there is none, the end of the bytes.
 fn after_line_feed(bytes: &[u8], end: usize) -> usize
     ensures { λ r. ⌜ r ≡ choose (ltb end (length (now (bytes .entry)))) (end + 1) end ⌝ }
 {
     if end < bytes.len() { end + 1 } else { end }
 }
 
-// A part of a line, and whether a line feed follows it.
+// Takes a part of a line. `ends` says whether a line feed follows it.
 fn take_part(pending: Pending, part: &[u8], ends: bool, line: &mut [u8]) -> Pending
     requires { ⌜ CanTake pending (now line) ⌝ }
     ensures { λ r. ⌜ r .len ≤ length (now (line .exit)) ⌝ }
@@ -165,7 +165,7 @@ fn take_part(pending: Pending, part: &[u8], ends: bool, line: &mut [u8]) -> Pend
     end_line(pending, &line[..len])
 }
 
-// A line that has ended. A carriage return at its end and a byte order mark at its front are passed over.
+// Answers a line that has ended. A carriage return at its end and a byte order mark at its front are passed over.
 fn end_line(pending: Pending, line: &[u8]) -> Pending
     ensures { λ r. ⌜ EndsLine pending (now (line .entry)) r ⌝ }
 {

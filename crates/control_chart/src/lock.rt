@@ -1,17 +1,17 @@
-// The lock of a file: `FILE.lock`, which only one process can make. Its maker reads FILE after that, writes the new form into the lock and
-// renames it over FILE, or removes it. Nobody else removes it.
+// The lock of FILE is the file `FILE.lock`. Only one process can make it. That process then reads FILE. It writes the new form into the
+// lock and renames the lock over FILE, or it removes the lock. No other process of this program removes it.
 use crate::say::error;
 use crate::say::failure;
 use printing::put_text;
 ghost use Rattle.io.specs.Counts.{Counts};
 
-// Room for what is said of a lock: the longest name, and what to do.
+// Room for what is said about a lock: the longest name, and what to do.
 const LOCKED_ROOM: usize = 8192;
 
-// How often the lock is tried for, with a pause of 5 ms after each: for two seconds.
+// How many times making the lock is tried. A pause of 5 ms follows each try, so it takes two seconds.
 const TRIES: u32 = 400;
 
-// The lock's name: FILE's, and `.lock`.
+// The lock's name is FILE's name and `.lock`.
 pub fn put_lock_name(path: &[u8], name: &mut [u8]) -> usize
     ensures { λ r. ⌜ Counts r (now (name .exit)) ⌝ }
 {
@@ -19,7 +19,7 @@ pub fn put_lock_name(path: &[u8], name: &mut [u8]) -> usize
     put_text(name, behind_path, b".lock")
 }
 
-// Makes the lock, and answers a descriptor that is open for writing to it; below 0 where it was not made, and then it is said why.
+// Makes the lock, and answers a descriptor that is open for writing to it. If it cannot make the lock, it says why and answers less than 0.
 pub fn take_lock(path: &[u8], lock: &[u8]) -> i32 {
     let mut left = TRIES;
     while 0 < left {
@@ -56,7 +56,8 @@ fn put_locked(lock: &[u8], text: &mut [u8]) -> usize
     put_text(text, behind_name, b" and repeat the command")
 }
 
-// Removes the lock that this process made. The file stays as it is. Where somebody else removed it, the name may be another's lock by now.
+// Removes the lock that this process made. The file stays as it is. If somebody removed the lock already, nothing is removed: the name may
+// by now be that of another process's lock.
 pub fn release(lock: &[u8], fd: i32) {
     if system::has_name(fd) {
         os::unlink(lock);

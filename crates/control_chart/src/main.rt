@@ -5,11 +5,11 @@
 //     control_chart --help             what it takes and answers
 //     control_chart --version          its version
 //
-// What a line means and answers is `commands::answer_line`'s, what a command on a file comes to `outcomes::on_file`'s, and what bytes of the
-// input do to the chart is in `specs/Input`. Which bytes are read, and that answers are written, no contract can say.
+// `commands::answer_line` decides what a line means and answers. `outcomes::on_file` decides what a command on a file comes to.
+// `specs/Input` says what the input's bytes do to the chart. No contract can say which bytes are read, nor that answers are written.
 //
-// A program in Rattle has no exit status. With `--status` in front of all, it writes its status to descriptor 3 at its end: 0, 1 (hold the
-// batch), 2 (refused) or 3 (error). The script `bin/control_chart` asks for it and ends with it.
+// A program in Rattle has no exit status. With `--status` as its first argument it writes its status to descriptor 3 at its end: 0, 1 (hold
+// the batch), 2 (refused) or 3 (error). The script `bin/control_chart` asks for this status and exits with it.
 mod arguments;
 mod file;
 mod help;
@@ -29,8 +29,10 @@ use parsing::fields::same_bytes;
 use say::error;
 use say::file_first;
 use say::write_text;
+ghost use mathlib.Core.Path.{_≡_};
+ghost use Rattle.control_chart.specs.Status.{asksForHelp};
 
-// The most bytes of FILE's name: `.lock` follows it, and a path has at most 4,095.
+// The most bytes of FILE's name: `.lock` follows it in the lock's name, and a path has at most 4,095 bytes.
 const NAME_MOST: usize = 4090;
 
 // Where the script reads the exit status.
@@ -63,8 +65,8 @@ fn tell_status(status: u8) -> bool {
     }
 }
 
-// By the arguments from the first one on. Answers the exit status. Where standard output is closed, a file that is opened would take its
-// place, so nothing is done.
+// Does what the arguments from `first` on ask for. Answers the exit status. If standard output is closed, nothing is done: a file that is
+// opened would take its place.
 fn run(first: usize, count: usize) -> u8 {
     let out = system::permissions_of(STDOUT_FILENO);
     if !out.known {
@@ -89,7 +91,7 @@ fn long_name() -> u8 {
     )
 }
 
-// By the first argument: what is asked of the program itself, or a file, whose command begins with the next argument.
+// The first argument asks for help or for the version, or it is FILE. After FILE the command begins with the next argument.
 fn by_first(word: &[u8], next: usize, count: usize) -> u8 {
     if asks_for_help(word) {
         return explain();
@@ -106,7 +108,7 @@ fn by_first(word: &[u8], next: usize, count: usize) -> u8 {
     first_alone(word)
 }
 
-// One argument: the version, or a file without a command.
+// There is only one argument. It asks for the version, or it is FILE without a command.
 fn first_alone(word: &[u8]) -> u8 {
     if same_bytes(word, b"--version") {
         return say_version();
@@ -120,6 +122,8 @@ fn first_alone(word: &[u8]) -> u8 {
     )
 }
 
-fn asks_for_help(word: &[u8]) -> bool {
+fn asks_for_help(word: &[u8]) -> bool
+    ensures { λ r. ⌜ r ≡ asksForHelp (now (word .entry)) ⌝ }
+{
     same_bytes(word, b"--help") | same_bytes(word, b"-h") | same_bytes(word, b"help")
 }

@@ -3,8 +3,8 @@ use system::Permissions;
 ghost use mathlib.Core.Path.{_≡_};
 ghost use Rattle.io.specs.Counts.{Counts};
 
-// What reading a file gave: whether all went well, whether there is a file, how many bytes came, and its permissions. A file that is longer
-// than any stored form is read as far as the buffer goes, which is no stored form either.
+// What reading a file gave: whether all went well, whether there is a file, how many bytes were read, and its permissions. A file that is
+// longer than the buffer is read only until the buffer is full. These bytes are longer than any stored form, so they are none either.
 pub struct FileRead {
     pub done: bool,
     pub there: bool,
@@ -18,7 +18,7 @@ struct BytesRead {
     len: usize,
 }
 
-// A file that is not there is read too: as no file. Where a call fails, the file stays open, so that the reason is still the system's last.
+// It is no failure if there is no file. If a call fails, the file is not closed, so that the reason is still the system's last one.
 pub fn read_file(path: &[u8], held: &mut [u8]) -> FileRead
     ensures { λ r. ⌜ Counts (r .len) (now (held .exit)) ⌝ }
 {

@@ -1,4 +1,4 @@
-// A file replaced, so that at every moment the old bytes or the new stand whole under its name: the new bytes go into the file's lock, which
+// Replaces a file. At every moment the file has all of the old bytes or all of the new ones: the new bytes go into the file's lock, which
 // is synced and then renamed over the file.
 use crate::lock::release;
 use crate::say::error;
@@ -8,11 +8,11 @@ use system::Permissions;
 ghost use Rattle.io.specs.Counts.{Counts};
 ghost use Rattle.control_chart.specs.Folder.{IsFolder};
 
-// What `fchown` takes for an owner that is to stay.
+// With this number `fchown` leaves the owner as it is.
 const SAME_OWNER: u32 = 4294967295;
 
-// Whether it was done. If not, it is said why, the lock is gone, and the file is as it was. The lock stays open, so that it can be seen whether
-// it is still there: renaming by its name would take whatever lock has the name.
+// Answers whether the file was replaced. If not, the reason is said, the lock is gone, and the file is as it was. The lock stays open, to
+// test whether it is still there: if somebody removed it, its name may by now be that of another process's lock.
 pub fn replace_file(
     path: &[u8],
     lock: &[u8],
@@ -46,7 +46,7 @@ pub fn replace_file(
     true
 }
 
-// The old file's permissions, then the new bytes, synced.
+// Gives the lock the old file's permissions, writes the new bytes and syncs them.
 fn fill_lock(fd: i32, permissions: Permissions, form: &[u8]) -> bool {
     if !give_permissions(fd, permissions) {
         return false;
@@ -57,7 +57,7 @@ fn fill_lock(fd: i32, permissions: Permissions, form: &[u8]) -> bool {
     libc::fsync(fd) == 0
 }
 
-// The mode of the file that was there. Its owner and group are given too, as far as this user may.
+// Gives the lock the mode of the old file. It also gives the old owner and group, as far as this user may.
 fn give_permissions(fd: i32, permissions: Permissions) -> bool {
     if !permissions.known {
         return true;
@@ -68,8 +68,8 @@ fn give_permissions(fd: i32, permissions: Permissions) -> bool {
     libc::fchmod(fd, permissions.mode) == 0
 }
 
-// After this the new name lasts over a loss of power. Answers whether it was done; a file system that syncs no folder (EINVAL) has nothing to
-// do.
+// Syncs the file's folder, so that the file is still the new one after a loss of power. Answers whether that was done. EINVAL is no
+// failure: the file system does not sync folders.
 pub fn sync_folder(path: &[u8]) -> bool {
     let n = folder_len(path);
     if n == 0 {
@@ -89,7 +89,7 @@ fn sync_named(folder: &[u8]) -> bool {
     os::errno() == libc::EINVAL
 }
 
-// The bytes up to the last '/', with it; 0 where there is none.
+// How many bytes there are up to the last '/', which counts too; 0 if there is no '/'.
 fn folder_len(path: &[u8]) -> usize
     ensures { λ r. ⌜ IsFolder (now (path .entry)) r ⌝ }
     ensures { λ r. ⌜ Counts r (now (path .entry)) ⌝ }

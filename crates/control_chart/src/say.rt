@@ -10,7 +10,7 @@ ghost use Rattle.io.specs.Counts.{Counts};
 // The exit status of an error.
 pub const ERROR: u8 = 3;
 
-// Room for an error: the longest name, and what is wrong, in which the lock's name may stand too.
+// Room for an error: the longest name, and what is wrong, which may contain the lock's name too.
 const ERROR_ROOM: usize = 16384;
 
 // How many bytes a write took, and whether to go on.
@@ -23,8 +23,8 @@ pub fn say(text: &[u8]) -> bool {
     write_text(STDOUT_FILENO, text)
 }
 
-// Writes all of a text, and answers whether it could. Where nothing is taken for now, it waits. Nothing says that a write ever takes a
-// byte, so the writes are counted: 2^63 of them are more than any text needs.
+// Writes all of a text, and answers whether it could. It waits if the system cannot take a byte at the moment. No contract says that a
+// write ever takes a byte, so the loop counts its writes: 2^63 are more than any text needs.
 pub fn write_text(fd: i32, text: &[u8]) -> bool {
     let mut at: usize = 0;
     let mut left: u64 = 9223372036854775808;
@@ -56,7 +56,7 @@ fn write_some(fd: i32, text: &[u8]) -> Written
     }
 }
 
-// Whether the failure passes by itself: nothing is taken for now, or a signal came. Then it has waited.
+// Whether to write again: the system takes no byte at the moment (then this pauses), or a signal came.
 fn passes(error: i32) -> bool {
     if error == libc::EAGAIN {
         system::pause();
@@ -65,7 +65,7 @@ fn passes(error: i32) -> bool {
     error == libc::EINTR
 }
 
-// An error: the name of the file, and what is wrong and what to do. Answers the exit status.
+// Says an error: the name of the file, what is wrong, and what to do. Answers the exit status.
 pub fn error(name: &[u8], what: &[u8]) -> u8
     ensures { λ r. ⌜ r ≡ 3 ⌝ }
 {
@@ -75,7 +75,7 @@ pub fn error(name: &[u8], what: &[u8]) -> u8
     ERROR
 }
 
-// The first argument is a command's name, and no file's.
+// Says the error of a command's name in the place of FILE.
 pub fn file_first(word: &[u8]) -> u8
     ensures { λ r. ⌜ r ≡ 3 ⌝ }
 {
@@ -85,7 +85,7 @@ pub fn file_first(word: &[u8]) -> u8
     )
 }
 
-// The same as `error`, of a call of the system that has just failed: its reason follows in the system's words.
+// Says an error of a system call that has just failed. The system's reason follows, in its own words.
 pub fn failure(name: &[u8], what: &[u8]) -> u8
     ensures { λ r. ⌜ r ≡ 3 ⌝ }
 {

@@ -1,5 +1,5 @@
--- Laws of the least and the greatest of some words: of the loop that picks them, word by word, and that they decide a test which a word
--- between two that pass it passes too. All words pass it exactly if these two do (`extremes-decide`).
+-- Laws of the least and the greatest of some words. A loop picks them, word by word. They decide a test that every word between two passing
+-- words passes too: all words pass it exactly if these two do (`extremes-decide`).
 use mathlib.Core.Path.{_≡_, refl, sym, ap, _∙_}
 use mathlib.Core.Bool.{Bool, true, _&&_}
 use mathlib.Core.List.{List, [], _∷_}
@@ -21,28 +21,28 @@ use Rattle.guide.proofs.PassesBetween.{PassesBetween}
 use Rattle.extremes.specs.declared.Extremes.{Extremes}
 use Rattle.extremes.specs.Extremes.{lesser, greater, pickedFrom, pickedOf, leastOf, greatestOf, AreExtremes}
 
--- ---- a loop that picks of the words one after the other
+-- ---- a loop that picks, word by word
 
 module _ (pick : ℤ → ℤ → ℤ) where
-  -- what is picked of two words, as the machine holds them
+  -- the word picked from two words, as the computer holds them
   pub picked-held : {r a b : ℤ} → SFits w16 r → SFits w16 a → SFits w16 b → r ≡ pick (toZ w16 (ofZ w16 a)) (toZ w16 (ofZ w16 b))
       → toZ w16 (ofZ w16 r) ≡ pick a b
   picked-held r a b e = toZ-ofZ r ∙ e ∙ (λ i. pick (toZ-ofZ a i) (toZ-ofZ b i))
 
-  -- of no word
+  -- without words
   pub picked-empty : (ws : List ℤ) → length ws ≡ 0 → pos 0 ≡ pickedOf pick ws
   unfolding pickedOf
   picked-empty [] h = refl
   picked-empty (w ∷ ws) h = absurd (omega arith)
 
-  -- the first word, before any other
+  -- the start: the first word is picked
   pub picked-first : (ws : List ℤ) {x : ℤ} → 1 ≤ length ws → x ≡ getD ws 0 (pos 0) → pickedFrom pick x (drop 1 ws) ≡ pickedOf pick ws
   unfolding pickedOf
   picked-first [] h e = absurd (omega arith)
   picked-first (w ∷ ws) h e = rw e
 
   module _ (ws : List ℤ) (i : ℕ) (x : ℤ) {whole : ℤ} (inv : pickedFrom pick x (drop i ws) ≡ whole) where
-    -- one word more
+    -- one more word
     pub picked-turn : {r w : ℤ} → i < length ws → w ≡ getD ws i (pos 0) → r ≡ pick x w → pickedFrom pick r (drop (i + 1) ws) ≡ whole
     unfolding pickedFrom
     picked-turn h e f = rw (f, e) (sym (rw (add-one, drop-cons ws i (pos 0))) ∙ inv)
@@ -73,7 +73,7 @@ greater-second a b = choose-ind (λ x. leZ b x ≡ true) (leZ a b) b a (λ t. at
 -- ---- a test of all words
 
 module _ (test : ℤ → Bool) where
-  -- what is picked of words that pass passes
+  -- a word picked from passing words passes
   passes-picked : (pick : ℤ → ℤ → ℤ) → ((a b : ℤ) → test a ≡ true → test b ≡ true → test (pick a b) ≡ true)
       → (ws : List ℤ) (x : ℤ) → test x ≡ true → allOf test ws ≡ true → test (pickedFrom pick x ws) ≡ true
   unfolding pickedFrom allOf
@@ -90,7 +90,8 @@ module _ (test : ℤ → Bool) where
   passes-greater a b p q = choose-ind (λ x. test x ≡ true) (leZ a b) b a (λ _. q) (λ _. p)
 
   module _ (between : PassesBetween test) where
-    -- with l at most g: where the least of l and some words passes, and the greatest of g and these, so do l, g and the words
+    -- let l be at most g. If the least of l and some words passes, and the greatest of g and these words passes, so do l, g and all the
+    -- words
     passes-between : (ws : List ℤ) (l g : ℤ) → leZ l g ≡ true
         → test (pickedFrom lesser l ws) ≡ true → test (pickedFrom greater g ws) ≡ true → ((test l && test g) && allOf test ws) ≡ true
     unfolding pickedFrom allOf
@@ -124,7 +125,7 @@ module _ (test : ℤ → Bool) where
         let all = both (test w) (allOf test ws) t in
         rw (passes-picked lesser passes-lesser ws w (all .0) (all .1), passes-picked greater passes-greater ws w (all .0) (all .1)))
 
-    -- .. and so do the answers to the test of the two, as the machine holds them
+    -- the same for the two answers of the test, for words as the computer holds them
     pub answers-decide : (ws : List ℤ) {e : Extremes} {first second : Bool} → 1 ≤ length ws → AreExtremes ws e
         → SFits w16 (e .least) → SFits w16 (e .greatest) → first ≡ test (toZ w16 (ofZ w16 (e .least)))
         → second ≡ test (toZ w16 (ofZ w16 (e .greatest))) → (first && second) ≡ allOf test ws

@@ -1,7 +1,7 @@
 // The least and the greatest of some words.
 //
-// They decide a test that a word passes where it lies between two that pass, as the range of a kind and the control limits are: all words
-// pass exactly if these two do. So many words take two tests, and a loop that only compares.
+// They decide a test that every word between two passing words passes too, such as the range of a kind or the control limits: all words
+// pass exactly if these two pass. So many words need only two tests, and a loop that only compares.
 ghost use mathlib.Core.Path.{_≡_};
 ghost use Rattle.extremes.specs.Extremes as specs;
 
@@ -10,7 +10,7 @@ pub struct Extremes {
     pub greatest: i16,
 }
 
-// Of no word both are 0. No word ends the loop early, so that it can be compiled to take many words at a time.
+// Without words both are 0. No word ends the loop early, so the compiler can let it take many words at a time.
 pub fn extremes_of(words: &[i16]) -> Extremes
     ensures { λ r. ⌜ specs.AreExtremes (now (words .entry)) r ⌝ }
 {
@@ -33,7 +33,7 @@ pub fn extremes_of(words: &[i16]) -> Extremes
     e
 }
 
-// The extremes of one word more.
+// The extremes after one more word.
 fn with_word(e: Extremes, w: i16) -> Extremes
     ensures { λ r. ⌜ specs.AreWithWord e w r ⌝ }
 {

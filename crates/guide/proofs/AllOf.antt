@@ -1,4 +1,4 @@
--- Laws of words that all pass a test, and of words each in order with the next, as a loop looks at them one after the other.
+-- Laws of words that all pass a test, and of words in an order from each to the next, for a loop that goes through the words one by one.
 use mathlib.Core.Path.{_≡_, refl, ap, _∙_}
 use mathlib.Core.Bool.{Bool, true, false, _&&_}
 use mathlib.Core.List.{List, [], _∷_}
@@ -14,7 +14,7 @@ use Rattle.guide.specs.Verdict.{eachNext}
 -- ---- every word passes a test
 
 module _ (test : ℤ → Bool) (ws : List ℤ) (i : ℕ) where
-  -- the words from i on: the word at i, and those after it
+  -- the words from i on: the word at i, and the words after it
   pub all-next : i < length ws → allOf test (drop i ws) ≡ (test (getD ws i (pos 0)) && allOf test (drop (i + 1) ws))
   unfolding allOf
   all-next h = rw (add-one, drop-cons ws i (pos 0))
@@ -23,14 +23,14 @@ module _ (test : ℤ → Bool) (ws : List ℤ) (i : ℕ) where
   unfolding allOf
   all-none h = rw (drop-of-length-le ws h)
 
-  -- by the outcome of the test at i
+  -- the two outcomes of the test of the word at i
   pub all-fails : i < length ws → test (getD ws i (pos 0)) ≡ false → allOf test (drop i ws) ≡ false
   all-fails h e = all-next h ∙ ap (λ (b : Bool). b && allOf test (drop (i + 1) ws)) e
 
   pub all-passes : i < length ws → test (getD ws i (pos 0)) ≡ true → allOf test (drop i ws) ≡ allOf test (drop (i + 1) ws)
   all-passes h e = all-next h ∙ ap (λ (b : Bool). b && allOf test (drop (i + 1) ws)) e
 
--- ---- each word and the next stand in the order
+-- ---- the order holds from each word to the next
 
 module _ (order : ℤ → ℤ → Bool) where
   each-cons : (ws : List ℤ) (i : ℕ) → suc i < length ws
@@ -41,7 +41,7 @@ module _ (order : ℤ → ℤ → Bool) where
   each-cons (w ∷ (next ∷ ws)) zero h = refl
   each-cons (w ∷ (next ∷ ws)) (suc i) h = each-cons (next ∷ ws) i (omega arith)
 
-  -- the words from the one before i on: that one and the word at i, and the words from i on
+  -- the words from i − 1 on: the words at i − 1 and at i, and then the words from i on
   pub each-next : (ws : List ℤ) (i : ℕ) → 1 ≤ i → i < length ws
       → eachNext order (drop (i - 1) ws)
       ≡ (order (getD ws (i - 1) (pos 0)) (getD ws i (pos 0)) && eachNext order (drop (i + 1 - 1) ws))

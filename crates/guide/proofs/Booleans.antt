@@ -17,20 +17,21 @@ pub by-test {ℓ} : {P : Type ℓ} (t : Bool) → (t ≡ true → P) → (t ≡ 
 by-test true f g = f refl
 by-test false f g = g refl
 
--- two tests that hold together
+-- two tests that imply each other have the same outcome
 pub same-outcome : (a b : Bool) → (a ≡ true → b ≡ true) → (b ≡ true → a ≡ true) → a ≡ b
 same-outcome true b f g = sym (f refl)
 same-outcome false true f g = g refl
 same-outcome false false f g = refl
 
--- a call's answer r to the test x, as an `if !r` found it
+-- r is a call's answer to the test x. An `if !r` decides x
 pub answered-no : {r x : Bool} → r ≡ x → not r ≡ true → x ≡ false
 answered-no {r} e t = sym e ∙ not-true r t
 
 pub answered-yes : {r x : Bool} → r ≡ x → not r ≡ false → x ≡ true
 answered-yes {r} e t = sym e ∙ not-false r t
 
--- a loop that joins tests: what it found and what remains, together, is the whole. One test more; and the end, where nothing remains
+-- a loop that joins tests: what it found and what remains give the whole. `found-more`: one more test. `found-all`: the end, where nothing
+-- remains
 pub found-more : (found test rest next whole : Bool) → (found && rest) ≡ whole → rest ≡ (test && next) → ((found && test) && next) ≡ whole
 found-more true test rest next whole h e = sym e ∙ h
 found-more false test rest next whole h e = h

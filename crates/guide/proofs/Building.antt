@@ -1,5 +1,5 @@
--- How building can go (`building-ind`): it is declined by a number of at most 3, or it gives a chart, with at most 33 rounds and 32 words
--- removed.
+-- The cases of building (`building-ind`): it is refused with a number of at most 3, or it gives a chart with at most 33 rounds and at most
+-- 32 words removed.
 use mathlib.Core.Path.{_≡_, refl}
 use mathlib.Core.List.{List}
 use Prim.Native.Nat.{ℕ, zero, suc, _≤_}

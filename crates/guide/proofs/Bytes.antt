@@ -1,5 +1,5 @@
--- Laws of numbers in two bytes and of words in two's complement: how many bytes there are (`length-bytes`), numbers read from their own
--- bytes (`number-there`, `numbers-there`) and bytes made of the numbers in them (`bytes-back`), words and their numbers (`word-back`,
+-- Laws of numbers in two bytes and of words in two's complement: the number of bytes (`length-bytes`), numbers read back from their bytes
+-- (`number-there`, `numbers-there`), bytes made again from their numbers (`bytes-back`), and words and their numbers (`word-back`,
 -- `number-back`).
 use mathlib.Core.Path.{_≡_, refl, ap, _∙_}
 use mathlib.Core.Bool.{true}
@@ -55,7 +55,7 @@ unfolding numbersIn
 length-numbers zero bytes = refl
 length-numbers (suc n) bytes = ap suc (length-numbers n (drop 2 bytes))
 
--- number i of them
+-- number i of the numbers in bytes
 pub number-at : (n i : ℕ) (bytes : List ℕ) → i < n → getD (numbersIn n bytes) i 0 ≡ numberIn (drop (2 * i) bytes)
 unfolding numbersIn
 number-at zero i bytes h = absurd (omega arith)
@@ -64,7 +64,7 @@ number-at (suc n) (suc i) bytes h =
     let place : 2 + 2 * i ≡ 2 * suc i = omega arith in
     number-at n i (drop 2 bytes) (omega arith) ∙ ap numberIn (drop-drop (2 * i) 2 bytes ∙ ap (λ (k : ℕ). drop k bytes) place)
 
--- each is a byte
+-- every element is a byte: below 256
 abbrev pub AreBytes : List ℕ → Type 0
 AreBytes bytes = (i : ℕ) → getD bytes i 0 < 256
 
@@ -100,7 +100,7 @@ word-back (negsuc n) f =
     let magnitude : 65536 - (65536 - suc n) ≡ suc n = omega (arith, f) in
     rw (le-ltb (65536 - suc n) 32768 high, magnitude)
 
--- .. and a number that two bytes hold is the number of its word
+-- a number that fits two bytes is the number of its word
 pub number-back : (n : ℕ) → n < 65536 → numberOf (wordOf n) ≡ n
 unfolding wordOf numberOf
 number-back n h =

@@ -1,5 +1,5 @@
--- A signed number z of any width by its sign. Below 0, `!z`, the complement of its bits, is |z| − 1 (`complement`); otherwise it is its
--- magnitude (`natural`).
+-- A signed number z of any width, by its sign. If z is below 0, `!z`, the complement of its bits, is |z| − 1 (`complement`). Otherwise z is
+-- its own magnitude (`natural`).
 use mathlib.Core.Path.{_≡_, refl, sym, ap, _∙_}
 use mathlib.Core.Bool.{true, false, false≢true}
 use Prim.Native.Nat.{suc, _-_, _<_, _≤_, _^_}

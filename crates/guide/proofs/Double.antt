@@ -1,6 +1,6 @@
--- Laws of doubles that denote a fraction of whole numbers: a whole number as a double (`whole-is`), divided by 256 (`quotient-is`), and
--- compared with a whole number (`above-is`, `below-is`). A double is known by the k that it denotes (`denotes-unique`, `denotes-bits`),
--- which is read off it (`parts-is`).
+-- Laws of doubles that denote a fraction of whole numbers: a whole number as a double (`whole-is`), its division by 256 (`quotient-is`),
+-- and the comparison of a double with a whole number (`above-is`, `below-is`). The k that a double denotes determines the double and its
+-- bits (`denotes-unique`, `denotes-bits`), and `partsIn` gives this k (`parts-is`).
 use mathlib.Core.Path.{_≡_, refl, sym, ap, _∙_, subst}
 use mathlib.Core.Bool.{Bool, true, false}
 use Prim.Native.Nat.{ℕ, zero, suc, _+_, _*_, _/_, _^_, _≤_, _<_, zero-le}
@@ -30,9 +30,9 @@ unfolding ofInt
 whole-is (pos n) h = round-whole binary64 false n h
 whole-is (negsuc n) h = round-whole binary64 true (suc n) h
 
--- ---- divided by 256.0, which is `fin false 1 (pos 8)`
+-- ---- division by 256.0, which is `fin false 1 (pos 8)`
 
--- a / 256 is a value of the format
+-- a / 256 is a value of binary64
 part : (s : Bool) (a : ℕ) → a < 2 ^ 53 → HasValue (round binary64 s a lineParts) s a lineParts
 part s a h =
     let most = lt-of-lt-of-le (shl-lt 53 1066 h) (lit≤ tt) in
@@ -58,7 +58,7 @@ quotient-denotes : (x : Float) (k : ℤ) → natAbs k < 2 ^ 53 → IsRatio x k 1
 quotient-denotes x (pos n) h v = div-value x false n h v
 quotient-denotes x (negsuc n) h v = div-value x true (suc n) h v
 
--- ---- the order of two fractions: cross products
+-- ---- the order of two fractions, by cross products
 
 ltb-times : (a b p : ℕ) → 0 < p → ltb a b ≡ ltb (a * p) (b * p)
 ltb-times a b p some =
@@ -117,7 +117,7 @@ one-times : (k : ℤ) → pos 1 *ℤ k ≡ k
 one-times (pos n) = ap pos (one-mul n)
 one-times (negsuc n) = ap (λ (y : ℕ). negℤ (pos y)) (one-mul (suc n))
 
--- a whole number w against a double that denotes k / 256: "256w against k"
+-- a whole number w compared with a double that denotes k / 256: "256w against k"
 module _ (x : Float) (k w : ℤ) (h : natAbs w ≤ 2 ^ 53) (v : Denotes x k) where
   pub above-is : lt x (ofInt binary64 w) ≡ ltZ k (pos lineParts *ℤ w)
   above-is =
@@ -129,7 +129,7 @@ module _ (x : Float) (k w : ℤ) (h : natAbs w ≤ 2 ^ 53) (v : Denotes x k) whe
       lt-ratios (ofInt binary64 w) x w 1 k lineParts (lit< tt) (lit< tt) (whole-is w h) v
       ∙ ap (λ (z : ℤ). ltZ (pos lineParts *ℤ w) z) (one-times k)
 
--- ---- a double is known by what it denotes
+-- ---- what a double denotes determines the double
 
 value-bits : (x : Float) (s : Bool) (a c : ℕ) → 0 < c → HasValue x s a c → toBits binary64 x ≡ bitsAt s (a * 2 ^ 1074 / c)
 unfolding toBits
@@ -157,7 +157,7 @@ denotes-unique x y k p q v w =
 
 -- ---- the double that denotes k / 256
 
--- from one fraction to another of the same size
+-- a double that denotes a fraction denotes every equal fraction
 same-value : (x : Float) (s : Bool) (a c b d : ℕ) → 0 < c → a * d ≡ b * c → HasValue x s a c → HasValue x s b d
 same-value nan s a c b d some h v = v
 same-value (inf t) s a c b d some h v = v
@@ -189,13 +189,13 @@ unfolding doubleOf
 double-fits (pos n) h = odd-format false n h
 double-fits (negsuc n) h = odd-format true (suc n) h
 
--- the division of doubles gives it
+-- the division of doubles gives this double
 pub quotient-is : (k : ℤ) → natAbs k < 2 ^ 53 → div binary64 (ofInt binary64 k) (fin false 1 (pos 8)) ≡ doubleOf k
 quotient-is k h =
     denotes-unique _ (doubleOf k) k (div-fits binary64 _ _) (double-fits k h)
     (quotient-denotes (ofInt binary64 k) k h (whole-is k (le-of-lt h))) (double-denotes k)
 
--- ---- k is read off it
+-- ---- `partsIn` gives k
 
 parts-value : (x : Float) (s : Bool) (a : ℕ) → HasValue x s a lineParts → partsIn x ≡ signed s a
 unfolding partsIn

@@ -1,4 +1,4 @@
--- Numbers as the machine holds them: `toZ w (ofZ w z)` is z where z fits the width w.
+-- Numbers as the computer holds them: `toZ w (ofZ w z)` is z if z fits the width w.
 use mathlib.Core.Path.{_≡_, ap, _∙_}
 use Prim.Native.Nat.{_<_, _≤_, _^_}
 use native.Mathlib.Nat.{mul-le-mul}
@@ -14,7 +14,7 @@ pub small-fits : {w : Width} {z : ℤ} → natAbs z < 2 ^ hbits w → SFits w z
 small-fits {z = pos n} h = record { sfits = h }
 small-fits {z = negsuc n} h = record { sfits = omega arith }
 
--- a number that was worked out, and equals one that fits
+-- x fits sixty-four bits, and the number held for it is y
 pub record Held (x y : ℤ) : Type 0 where
   pub fits : SFits w64 x
   pub is : toZ w64 (ofZ w64 x) ≡ y
@@ -34,7 +34,7 @@ cast-word {w} h = ap (λ (z : ℤ). toZ w64 (ofZ w64 z)) (toZ-ofZ h) ∙ toZ-ofZ
 pub cast-fits : {w : ℤ} → SFits w16 w → SFits w64 (toZ w16 (ofZ w16 w))
 cast-fits h = rw (toZ-ofZ h) (wider h)
 
--- how large it and its square can be
+-- bounds on the word and on its square
 pub word-small : {w : ℤ} → SFits w16 w → natAbs w ≤ 2 ^ 15
 word-small {w} h = natAbs-le w (h .sfits)
 

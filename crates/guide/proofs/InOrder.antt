@@ -1,5 +1,5 @@
--- Laws of words that all pass a test: some of them in their old order pass it (`all-some`), and so do two lists joined (`all-joined`).
--- The same of the words in range and of the words none of which passes a test.
+-- Laws of words that all pass a test: some of them, in their old order, pass it (`all-some`), and so do two such lists joined
+-- (`all-joined`). The same laws for words in range, and for words none of which passes a test.
 use mathlib.Core.Path.{_≡_, refl, ap}
 use mathlib.Core.Bool.{Bool, true, false, not}
 use mathlib.Core.List.{List, [], _∷_, _++_}
@@ -30,7 +30,7 @@ take-in-order (suc k) (w ∷ ws) = kept (take-in-order k ws)
 
 -- ---- words that all pass a test
 
--- what all words pass, some of them pass
+-- if all words pass a test, some of them pass it
 pub all-some : (test : ℤ → Bool) {some words : List ℤ} → InOrder some words → allOf test words ≡ true → allOf test some ≡ true
 unfolding allOf
 all-some test none h = h
@@ -38,18 +38,18 @@ all-some test (kept {w} {some} {words} i) h =
     let b = both (test w) (allOf test words) h in rw (b .0) (all-some test i (b .1))
 all-some test (removed {w} {some} {words} i) h = all-some test i (both (test w) (allOf test words) h .1)
 
--- what two lists pass, the one followed by the other passes
+-- if two lists pass a test, one followed by the other passes it
 pub all-joined : (test : ℤ → Bool) (xs ys : List ℤ) → allOf test xs ≡ true → allOf test ys ≡ true → allOf test (xs ++ ys) ≡ true
 unfolding allOf
 all-joined test [] ys h k = k
 all-joined test (x ∷ xs) ys h k = let b = both (test x) (allOf test xs) h in rw (b .0) (all-joined test xs ys (b .1) k)
 
--- .. and the words with one more
+-- the same for one added word
 pub all-added : (test : ℤ → Bool) (ws : List ℤ) (w : ℤ) → allOf test ws ≡ true → test w ≡ true → allOf test (ws ++ (w ∷ [])) ≡ true
 unfolding allOf
 all-added test ws w h t = all-joined test ws (w ∷ []) h (rw t)
 
--- ---- the same of words in range
+-- ---- the same laws for words in range
 
 pub in-range-empty : (kind : ℕ) → allInRange kind [] ≡ true
 unfolding allInRange allOf
@@ -69,7 +69,7 @@ pub in-range-added : (kind : ℕ) (ws : List ℤ) (w : ℤ)
 unfolding allInRange
 in-range-added kind = all-added (inRange kind)
 
--- ---- the same of words none of which passes a test
+-- ---- the same laws for words none of which passes a test
 
 pub none-empty : (test : ℤ → Bool) → noneOf test [] ≡ true
 unfolding noneOf allOf

@@ -1,5 +1,5 @@
--- Laws of ℤ that stand for a ring tactic: an integer is written as a difference of two naturals (`Diff`), sums, products and squares
--- of such differences are differences again, and what is left is a statement of ℕ, which `omega` proves.
+-- Laws of ℤ in place of a ring tactic. An integer is written as a difference of two naturals (`Diff`). Sums, products and squares of such
+-- differences are differences again. A statement of ℕ remains, and `omega` proves it.
 use mathlib.Core.Path.{_≡_, refl, sym, ap, _∙_}
 use mathlib.Core.Bool.{Bool, true, false, cond, false≢true}
 use Prim.Native.Nat.{ℕ, zero, suc, _+_, _*_, _-_, _<_, _≤_}
@@ -14,11 +14,11 @@ use borrow.Author.Tests.{ltb-true, ltb-false, leb-true, leb-false, lt-ltb, le-lt
 abbrev pub distance : ℕ → ℕ → ℕ
 distance a b = (a - b) + (b - a)
 
--- the one order or the other
+-- two naturals are in one order or the other
 pub by-order {ℓ} : {P : Type ℓ} (a b : ℕ) → (b ≤ a → P) → (a < b → P) → P
 by-order a b f g = by-test (ltb a b) (λ t. g (ltb-true a b t)) (λ t. f (ltb-false a b t))
 
--- ---- a − b of two naturals, by its sign
+-- ---- a − b of two naturals, by cases of its sign
 
 pick : (t : Bool) (x y : ℤ) (P : ℤ → Type 0) → (t ≡ true → P x) → (t ≡ false → P y) → P (cond t x y)
 pick true x y P f g = f refl
@@ -101,7 +101,7 @@ of-pos {n} = record { is = sym (sub-pos n 0 n (omega arith)) }
 pub of-neg : {n : ℕ} → Diff (negsuc n) 0 (suc n)
 of-neg {n} = record { is = sym (sub-neg 0 (suc n) n (omega arith)) }
 
--- the two parts of any integer, of which one is 0
+-- the two parts of any integer. One of them is 0
 abbrev pub plusPart : ℤ → ℕ
 plusPart (pos n) = n
 plusPart (negsuc n) = 0
@@ -148,16 +148,16 @@ squared {z} {a} {b} p =
     let q : Diff (z *ℤ z) m 0 = record { is = square-magnitude z ∙ of-pos {n = m} .is } in
     same-difference (a * a + b * b) (2 * (a * b)) q (omega (arith, square-of p))
 
--- ---- what a difference says
+-- ---- what follows from a difference
 
 pub is-pos : {z : ℤ} {a b : ℕ} (k : ℕ) → Diff z a b → a ≡ b + k → z ≡ pos k
 is-pos {a = a} {b = b} k p e = p .is ∙ sub-pos a b k e
 
--- z is below 0 exactly if c < d, where a < b and c < d are shown to go together
+-- z is below 0 exactly if c < d. The premises show that a < b and c < d go together
 pub is-below : {z : ℤ} {a b : ℕ} → Diff z a b → (c d : ℕ) → (a < b → c < d) → (b ≤ a → d ≤ c) → ltZ z (pos 0) ≡ ltb c d
 is-below {a = a} {b = b} p c d f g = ap (λ (x : ℤ). ltZ x (pos 0)) (p .is) ∙ sub-below a b ∙ same-test a b c d f g
 
--- two differences that are one integer
+-- two differences that are the same integer
 pub equal : {z y : ℤ} {a b c d : ℕ} → Diff z a b → Diff y c d → a + d ≡ c + b → z ≡ y
 equal {a = a} {b = b} {c = c} {d = d} p q e = p .is ∙ sub-same a b c d e ∙ sym (q .is)
 
@@ -172,7 +172,7 @@ sub-order a b c d =
     (λ j q. sym (lt-ltb (a + d) (c + b) (omega arith)))
     (λ j q. same-test j i (a + d) (c + b) (λ h. omega arith) (λ h. omega arith)))
 
--- z < y exactly if e < f, where a + d < c + b and e < f are shown to go together
+-- z < y exactly if e < f. The premises show that a + d < c + b and e < f go together
 pub is-less : {z y : ℤ} {a b c d : ℕ} → Diff z a b → Diff y c d → (e f : ℕ) → (a + d < c + b → e < f) → (c + b ≤ a + d → f ≤ e)
     → ltZ z y ≡ ltb e f
 is-less {y = y} {a = a} {b = b} {c = c} {d = d} p q e f less not-less =
@@ -187,18 +187,18 @@ less-yes p q h = is-less p q 0 1 (λ _. omega arith) (λ k. absurd (omega arith)
 pub less-no : {z y : ℤ} {a b c d : ℕ} → Diff z a b → Diff y c d → c + b ≤ a + d → ltZ z y ≡ false
 less-no p q h = is-less p q 0 0 (λ k. absurd (omega arith)) (λ _. omega arith)
 
--- .. and what it says of the parts
+-- what z < y says about the parts
 pub less-says : {z y : ℤ} {a b c d : ℕ} → Diff z a b → Diff y c d → ltZ z y ≡ true → a + d < c + b
 less-says {a = a} {b = b} {c = c} {d = d} p q h =
     ltb-true (a + d) (c + b) (sym (is-less p q (a + d) (c + b) (λ k. k) (λ k. k)) ∙ h)
 
--- two orders that go together
+-- two comparisons with the same outcome
 pub same-order : {z y x w : ℤ} {a b c d e f g h : ℕ} → Diff z a b → Diff y c d → Diff x e f → Diff w g h
     → (a + d < c + b → e + h < g + f) → (c + b ≤ a + d → g + f ≤ e + h) → ltZ z y ≡ ltZ x w
 same-order {a = a} {b = b} {c = c} {d = d} {e = e} {f = f} {g = g} {h = h} p q r s less not-less =
     is-less p q (e + h) (g + f) less not-less ∙ sym (is-less r s (e + h) (g + f) (λ k. k) (λ k. k))
 
--- z ≤ y, by the parts, both ways
+-- z ≤ y and its parts, in both directions
 pub at-most-says : (z y : ℤ) → leZ z y ≡ true → plusPart z + minusPart y ≤ plusPart y + minusPart z
 at-most-says (pos a) (pos b) h = omega (arith, leb-true a b h)
 at-most-says (pos a) (negsuc b) h = absurd (false≢true h)

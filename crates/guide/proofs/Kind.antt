@@ -29,7 +29,7 @@ in-range-few kind (negsuc n) h =
     (λ t. absurd (false≢true (rw (least-of-duplicates kind t) at h)))
     (λ t. omega (arith, leb-true n 19999 (both (leb n 19999) true (rw (least-of-others kind t) at h) .0)))
 
--- so it fits two bytes
+-- so a word in range fits two bytes
 pub in-range-fits : (kind : ℕ) (w : ℤ) → inRange kind w ≡ true → SFits w16 w
 in-range-fits kind (pos n) h = omega (arith, in-range-few kind (pos n) h)
 in-range-fits kind (negsuc n) h = omega (arith, in-range-few kind (negsuc n) h)

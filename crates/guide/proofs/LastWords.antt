@@ -1,4 +1,4 @@
--- Laws of the end of a list of words: after a word is added it is the last, and the rest is what stood before.
+-- Laws of the end of a list of words: an added word is the last, and the words before it do not change.
 use mathlib.Core.Path.{_≡_}
 use mathlib.Core.List.{List, [], _∷_, _++_}
 use Prim.Native.Nat.{ℕ, _+_, _-_, _≤_}
@@ -12,24 +12,24 @@ use Rattle.guide.proofs.InOrder.{drop-in-order, take-in-order}
 
 -- ---- a word added
 
--- one word more
+-- the list is one word longer
 pub length-added : (ws : List ℤ) (w : ℤ) → length (ws ++ (w ∷ [])) ≡ length ws + 1
 length-added ws w = length-append ws (w ∷ [])
 
 before-added : (ws : List ℤ) (w : ℤ) → length (ws ++ (w ∷ [])) - 1 ≡ length ws
 before-added ws w = omega (arith, length-added ws w)
 
--- the last is the word that was added
+-- the last word is the added one
 pub last-word-added : (ws : List ℤ) (w : ℤ) → lastWord (ws ++ (w ∷ [])) ≡ w
 unfolding lastWord
 last-word-added ws w = rw (before-added ws w) (getD-append-seam ws w [] (pos 0))
 
--- all but the last are the words that stood before
+-- all words but the last are the words before the addition
 pub but-last-added : (ws : List ℤ) (w : ℤ) → butLast (ws ++ (w ∷ [])) ≡ ws
 unfolding butLast
 but-last-added ws w = rw (before-added ws w) (take-append-seam ws (w ∷ []))
 
--- ---- all but the last, and the last k: words of the list in their old order, and how many they are
+-- ---- all words but the last, and the last k words: they stand in their old order, and their number is known
 
 pub but-last-in-order : (ws : List ℤ) → InOrder (butLast ws) ws
 unfolding butLast

@@ -1,4 +1,4 @@
--- Laws of truth values and integers, and of numbers as the machine holds them; then the laws about the paper's definitions.
+-- Laws of truth values and integers, and of numbers as the computer holds them. Then the laws about the paper's definitions.
 pub mod Integers
 pub mod Held
 pub mod Complement

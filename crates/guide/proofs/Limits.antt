@@ -34,7 +34,7 @@ unfolding sumOfSquares sumOf sumBy
 squares-are [] = refl
 squares-are (w ∷ ws) = rw (square-magnitude w, squares-are ws)
 
--- one word more
+-- the sum after one more word
 sum-snoc : (ws : List ℤ) (w : ℤ) → sumOf (ws ++ (w ∷ [])) ≡ sumOf ws +ℤ w
 unfolding sumOf
 sum-snoc [] w = +ℤ-idr w ∙ sym (+ℤ-idl w)
@@ -46,7 +46,7 @@ sums-snoc ws w = rw (length-append, sum-snoc, map-append, sum-snoc)
 
 -- ---- n·V is the sum of the squared deviations
 
--- (k·w − (c − d))², for any k, c and d: its parts that are added and those that are taken away
+-- (k·w − (c − d))², for any k, c and d: the parts that are added, and those that are subtracted
 module _ (k c d : ℕ) where
   added : ℤ → ℕ
   added w = k * k * squareOf w + 2 * k * (plusPart w * d + minusPart w * c) + (c * c + d * d)
@@ -109,12 +109,12 @@ n-times-v ws = ap natAbs (ap (λ (z : ℤ). pos (length ws) *ℤ z) (sym (v-natu
 
 -- ---- the comparison with a limit
 
--- in natural numbers, where V is not negative
+-- in natural numbers, if V is not negative
 pub exceeds-natural : (m : ℕ) (s : Sums) (v : ℕ) (d : ℤ) → vOf s ≡ pos v → exceeds m s d ≡ ltb (m * m * s .n * v) (squareOf d * (s .n - 1))
 unfolding exceeds
 exceeds-natural m s v d e = rw (e, square-magnitude d)
 
--- and of some words' own sums
+-- the same for the sums of some words
 pub exceeds-squares : (m : ℕ) (ws : List ℤ) (d : ℤ)
     → exceeds m (sumsOf ws) d ≡ ltb (m * m * deviationSquares (sumsOf ws) ws) (squareOf d * (length ws - 1))
 unfolding sumsOf
@@ -123,7 +123,7 @@ exceeds-squares m ws d =
     let e : m * m * length ws * v ≡ m * m * deviationSquares (sumsOf ws) ws = omega (arith, ap (λ (x : ℕ). m * m * x) (n-times-v ws)) in
     exceeds-natural m (sumsOf ws) v d (v-natural ws) ∙ ap (λ (x : ℕ). ltb x (squareOf d * (length ws - 1))) e
 
--- a word beyond a limit deviates by more than m·S, on whichever side
+-- a word beyond a limit deviates by more than m·S, on either side
 pub beyond-exceeds : (m : ℕ) (limits : Limits) (w : ℤ) → beyond m limits w ≡ true
     → exceeds m (limits .sums) (scaledDeviation (limits .sums) w) ≡ true
 unfolding beyond beyondUpper beyondLower above below
@@ -136,7 +136,7 @@ beyond-exceeds m limits w t =
 
 -- ---- how many words lie beyond m·S
 
--- where c·f is at least b for each word that a test removes, the words removed, b times each, are within c times the sum of f
+-- if c·f is at least b for each word that a test removes, b times the number of words removed is at most c times the sum of f
 removed-count : (test : ℤ → Bool) (f : ℤ → ℕ) (b c : ℕ) → ((w : ℤ) → test w ≡ true → b ≤ f w * c)
     → (ws : List ℤ) → length ws * b ≤ length (without test ws) * b + sumBy f ws * c
 unfolding sumBy
@@ -145,12 +145,12 @@ removed-count test f b c h =
     (λ w ws left t k. omega (arith, h w t, k))
     (λ w ws left t k. omega (arith, k))
 
--- where one more than j words each take up more than m²·x / c, and x is what all take up, m²·(j + 1) is below c
+-- if each of j + 1 words has a share of more than m²·x / c, and all shares together are x, then m²·(j + 1) is below c
 few : (m j c x : ℕ) → suc j * (m * m * x + 1) ≤ x * c → m * m * suc j < c
 few m j c x h =
     by-order (m * m * suc j) c (λ q. absurd (omega (arith, mul-le-mul-left x q))) (λ q. q)
 
--- of n words, a test that only words beyond m·S pass removes so few that m² times their number is below n − 1, or none
+-- a test that only words beyond m·S pass removes j + 1 of n words. Then m²·(j + 1) is below n − 1
 pub few-beyond : (m : ℕ) (ws : List ℤ) (test : ℤ → Bool)
     → ((w : ℤ) → test w ≡ true → exceeds m (sumsOf ws) (scaledDeviation (sumsOf ws) w) ≡ true)
     → (j : ℕ) → length ws ≡ length (without test ws) + suc j → m * m * suc j < length ws - 1

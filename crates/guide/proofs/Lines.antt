@@ -1,7 +1,7 @@
--- Laws of lines, for any multiple m of S and the sums of two words or more. A whole number of 256ths is above the exact limit exactly if
--- it is above the upper line (`above-upper`), and below the exact limit exactly if it is below the lower line (`below-lower`). So the line
--- is the greatest not above, or the least not below, less than 1 away, and it judges a word as the limit does (`upper-double`,
--- `lower-double`, `mean-double`, `line-doubles`, `judged-by-lines`).
+-- Laws of lines, for any multiple m of S and the sums of two words or more. A whole number of 256ths is above the exact limit exactly if it
+-- is above the upper line (`above-upper`), and below the exact limit exactly if it is below the lower line (`below-lower`). So the line is
+-- the greatest whole number not above the limit, or the least not below it, and it is less than 1 away. It judges a word as the limit does
+-- (`upper-double`, `lower-double`, `mean-double`, `line-doubles`, `judged-by-lines`).
 use mathlib.Core.Path.{_≡_, refl, sym, ap, _∙_}
 use mathlib.Core.Bool.{Bool, true, false, _&&_, false≢true}
 use mathlib.Core.List.{List, [], _∷_}
@@ -37,7 +37,7 @@ use Rattle.guide.proofs.Choice.{choose-ind}
 use Rattle.guide.proofs.Double.{double-denotes, denotes-bits, parts-of-double}
 use Rattle.guide.proofs.Kind.{in-range-few}
 
--- ---- a number that exactly the greater ones, or exactly the less ones, pass a test by
+-- ---- a number k, if exactly the numbers above k, or exactly those below k, pass a test
 
 self-not : (k : ℤ) → ltZ k k ≡ false
 self-not k = less-no (of-any k) (of-any k) (omega arith)
@@ -60,7 +60,7 @@ greatest-not {test} {k} e = record { is-not = e k ∙ self-not k; greatest = λ 
 pub least-not : {test : ℤ → Bool} {k : ℤ} → ((j : ℤ) → test j ≡ ltZ j k) → IsLeastNot test k
 least-not {test} {k} e = record { is-not = e k ∙ self-not k; least = λ j h. not-less k j (sym (e j) ∙ h) }
 
--- there is no other
+-- there is no other such number
 not-apart : (j k : ℤ) → leZ j k ≡ true → leZ k j ≡ true → j ≡ k
 not-apart (pos a) (pos b) h g = ap pos (omega (arith, leb-true a b h, leb-true b a g))
 not-apart (pos a) (negsuc b) h g = absurd (false≢true h)
@@ -90,7 +90,7 @@ less-quotient a n j some =
     (λ h. let less : suc (a / n) ≤ suc j = omega arith in omega (arith, lt-mul-div-succ a some, mul-le-mul-right n less))
 
 module _ (n : ℕ) (some : 1 ≤ n) where
-  -- rounded down: above it is what is above z / n
+  -- rounded down: k is above the quotient exactly if it is above z / n
   pub above-quotient : (z k : ℤ) → ltZ (quotientDown z n) k ≡ ltZ z (pos n *ℤ k)
   unfolding quotientDown
   above-quotient (pos a) (pos j) = quotient-less a n j some
@@ -103,7 +103,7 @@ module _ (n : ℕ) (some : 1 ≤ n) where
       (λ h. let one : 1 ≤ n * suc j = omega arith in omega arith)
       (λ h. omega arith))
 
-  -- rounded up: below it is what is below z / n
+  -- rounded up: k is below the quotient exactly if it is below z / n
   pub below-quotient : (z k : ℤ) → ltZ k (quotientUp z n) ≡ ltZ (pos n *ℤ k) z
   unfolding quotientUp
   below-quotient z k =
@@ -114,7 +114,7 @@ module _ (n : ℕ) (some : 1 ≤ n) where
 
 -- ---- the greatest whole d for which d / n is not more than m·S
 
--- its square is the greatest that is at most m²·n·V / (n − 1)
+-- its square is the greatest square that is at most m²·n·V / (n − 1)
 root-bound : (x c a : ℕ) → 1 ≤ c → ltb x (a * a * c) ≡ ltb (squareRoot (x / c)) a
 root-bound x c a some =
     let r = squareRoot (x / c) in
@@ -127,7 +127,7 @@ root-bound x c a some =
     omega (arith, div-mul-le-self x c, mul-le-mul-right c few)))
 
 module _ (s : Sums) (two : 2 ≤ s .n) (natural : vOf s ≡ pos (natAbs (vOf s))) where
-  -- a deviation of d / n is more than m·S exactly if d is more than the greatest that is not
+  -- a deviation of d / n is more than m·S exactly if |d| is more than `greatestDeviation`
   pub exceeds-greatest : (m : ℕ) (d : ℤ) → exceeds m s d ≡ ltb (greatestDeviation m s) (natAbs d)
   unfolding greatestDeviation
   exceeds-greatest m d =
@@ -137,7 +137,7 @@ module _ (s : Sums) (two : 2 ≤ s .n) (natural : vOf s ≡ pos (natAbs (vOf s))
       ∙ ap (λ (x : ℕ). ltb x (squareOf d * (s .n - 1))) same
       ∙ root-bound (m * m * (s .n * v)) (s .n - 1) (natAbs d) (omega arith)
 
-  -- up: a deviation above 0 that is more than m·S; down
+  -- `up-greatest`: a deviation above 0 that is more than r. `down-greatest`: one below 0
   up-greatest : (r : ℕ) (d : ℤ) → (ltZ (pos 0) d && ltb r (natAbs d)) ≡ ltZ (pos r) d
   up-greatest r (pos zero) = sym (le-ltb r 0 (omega arith))
   up-greatest r (pos (suc d)) = ap (λ (t : Bool). t && ltb r (suc d)) (lt-ltb 0 (suc d) (omega arith))
@@ -149,7 +149,7 @@ module _ (s : Sums) (two : 2 ≤ s .n) (natural : vOf s ≡ pos (natAbs (vOf s))
   down-greatest zero (negsuc d) = lt-ltb 0 (suc d) (omega arith)
   down-greatest (suc r) (negsuc d) = same-test (suc r) (suc d) r d (λ h. omega arith) (λ h. omega arith)
 
-  -- ---- k against the lines
+  -- ---- k compared with the lines
 
   pub above-upper : (m : ℕ) (k : ℤ) → partsAbove m s k ≡ ltZ (upperLine m s) k
   unfolding partsAbove partsAboveMean partsDeviation upperLine
@@ -175,7 +175,7 @@ module _ (s : Sums) (two : 2 ≤ s .n) (natural : vOf s ≡ pos (natAbs (vOf s))
       ∙ same-order (minus count sum) (negated (of-pos {n = r})) count (minus sum (of-pos {n = r})) (λ h. omega arith) (λ h. omega arith)
       ∙ sym (below-quotient (s .n) (omega arith) (pos lineParts *ℤ s .t -ℤ pos r) k)
 
--- the mean line takes one word or more
+-- the mean line needs one word or more
 pub above-mean : (s : Sums) → 1 ≤ s .n → (k : ℤ) → partsAboveMean s k ≡ ltZ (meanLine s) k
 unfolding partsAboveMean partsDeviation meanLine
 above-mean s some k =
@@ -186,7 +186,7 @@ above-mean s some k =
 
 -- ---- a word in 256ths: 256·w deviates 256 times as much
 
--- the squares of 256 times as much are compared as the squares are
+-- a comparison of the squares of 256 times the numbers has the outcome of a comparison of their squares
 same-squares : (m n v a c : ℕ)
     → ltb (lineParts * m * (lineParts * m) * n * v) (lineParts * a * (lineParts * a) * c) ≡ ltb (m * m * n * v) (a * a * c)
 same-squares m n v a c =
@@ -212,7 +212,7 @@ module _ (s : Sums) (natural : vOf s ≡ pos (natAbs (vOf s))) where
       ∙ same-squares m (s .n) v (natAbs d) (s .n - 1)
       ∙ sym (exceeds-natural m s v d natural)
 
-  -- the word is above the limit exactly if its 256ths are; below
+  -- a word is above (below) the mean or a limit exactly if 256·w is above (below) 256 times it
   word-up : (w : ℤ) → partsAboveMean s (pos lineParts *ℤ w) ≡ aboveMean s w
   unfolding partsAboveMean aboveMean
   word-up w =
@@ -237,14 +237,14 @@ module _ (s : Sums) (natural : vOf s ≡ pos (natAbs (vOf s))) where
 
 -- ---- the doubles of the lines
 
--- less than 1 away
+-- the line is less than 1 away from the limit
 close-above : {test : ℤ → Bool} (k : ℤ) → ((j : ℤ) → test j ≡ ltZ k j) → test (k +ℤ pos 1) ≡ true
 close-above k e = e (k +ℤ pos 1) ∙ next-is k
 
 close-below : {test : ℤ → Bool} (k : ℤ) → ((j : ℤ) → test j ≡ ltZ j k) → test (k -ℤ pos 1) ≡ true
 close-below k e = e (k -ℤ pos 1) ∙ before-is k
 
--- what is so of k is so of the k that is read off its double
+-- what holds for k holds for the number that `partsIn` gives for its double
 by-parts : (P : ℤ → Type 0) (k : ℤ) → P k → P (partsIn (doubleOf k))
 by-parts P k p = rw (parts-of-double k) p
 
@@ -316,7 +316,7 @@ module _ (limits : Limits) (two : 2 ≤ limits .sums .n) (natural : vOf (limits 
         of-upper-control = upper-double s two natural controlMultiple;
       })
 
--- such doubles judge every word as the limits do
+-- such doubles judge every word as the exact limits do
 pub judged-by-doubles : (limits : Limits) (lines : Lines) → AreLineDoubles limits lines → (w : ℤ)
     → beyondLines lines w ≡ beyondEach limits w
 unfolding beyondLines beyondBy beyondEach beyondUpper beyondLower

@@ -1,4 +1,4 @@
--- Where the machine starts is sound: after building (`start-of-building-sound`) and after reading (`start-of-reading-sound`).
+-- The machine's start is sound: after building (`start-of-building-sound`) and after reading (`start-of-reading-sound`).
 use mathlib.Core.Path.{_≡_, refl}
 use mathlib.Core.Bool.{true}
 use mathlib.Core.List.{List}
@@ -15,7 +15,7 @@ use Rattle.guide.specs.Lists.{begun, startOfBuilding, startOfReading}
 use Rattle.guide.proofs.Soundness.{built-sound}
 use Rattle.guide.proofs.Reading.{read-sound}
 
--- a start is begun where building built, and where reading took
+-- a start is `begun` only if building gives `built`, or if reading gives `taken`
 built-of-begun : (a : BuildingAnswer) (s : State) (P : BuildingAnswer → Type 0) → startOfBuilding a ≡ begun s
     → ((rounds removed : ℕ) → P (built s rounds removed)) → P a
 unfolding startOfBuilding

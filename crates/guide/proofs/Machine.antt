@@ -1,5 +1,5 @@
--- Laws of the machine: how a step can go (`step-ind`), every step keeps soundness (`step-sound`), answers no refusal 14
--- (`step-not-fourteen`), and a renewal's counts are small (`renewed-small`). So it is with a run of any calls from a sound state
+-- Laws of the machine: the cases of a step (`step-ind`). Every step keeps soundness (`step-sound`) and never answers 14
+-- (`step-not-fourteen`). The counts of a renewal are small (`renewed-small`). The same holds for a run of any calls from a sound state
 -- (`sound-run`), and from what building gives (`built-run`).
 use mathlib.Core.Path.{_≡_, refl, sym, ap, _∙_}
 use mathlib.Core.Bool.{Bool, true, false, not}
@@ -36,7 +36,7 @@ use Rattle.guide.proofs.Verdict.{verdict-at-most-four, no-verdict-withi
 use Rattle.guide.proofs.Soundness.{Sound, sound-facts, sound-from, not-free-facts, open-fits, free-fits, FreeOrOpen}
 use Rattle.guide.proofs.Soundness.{status-facts, held-free, held-open, within-free, within-open, fresh-sound, built-sound}
 
--- ---- a call that is not declined before what it brings is looked at: what then is known of the state
+-- ---- what is known about the state if it alone does not refuse a call
 
 pub can-post : (s : State) → postRefusal s ≡ 0 → (s .status ≡ 0) × (length (s .series) < seriesMost)
 unfolding postRefusal
@@ -61,20 +61,20 @@ can-renew s h =
     let enough = require-zero (leb baseWanted count) 11 0 (free .1) in
     (eqb-true (s .status) 0 (free .0), leb-true baseWanted count (enough .0))
 
--- ---- how a step can go
+-- ---- the cases of a step
 
--- the greatest number by which the machine declines a call
+-- the greatest number with which the machine refuses a call
 abbrev pub lastRefusal : ℕ
 lastRefusal = 12
 
--- one condition's number is no greater; nor is that of the first of two that is not met
+-- the number of one condition is at most that. So is the number of two conditions in order
 one-within : (t : Bool) (n : ℕ) → n ≤ lastRefusal → require t n 0 ≤ lastRefusal
 one-within t n h = require-ind (λ k. k ≤ lastRefusal) t n 0 (λ _. omega arith) (λ _. h)
 
 two-within : (t u : Bool) (n m : ℕ) → n ≤ lastRefusal → m ≤ lastRefusal → require t n (require u m 0) ≤ lastRefusal
 two-within t u n m h k = require-ind (λ k. k ≤ lastRefusal) t n _ (λ _. one-within u m k) (λ _. h)
 
--- a reading gives a word in its kind's range, or a refusal
+-- a reading gives a word in the range of its kind, or a refusal
 pub reading-ind : (kind : ℕ) (a b c : ℤ) (P : word.Formed → Type 0)
     → ((w : ℤ) → inRange kind w ≡ true → P (word.formed w)) → ((n : ℕ) → n ≤ lastRefusal → P (word.refused n))
     → P (word.fromReading kind a b c)
@@ -88,7 +88,7 @@ reading-ind kind a b c P forms declines =
     (λ _. declines 6 (omega arith)))
     (λ _. declines 5 (omega arith))
 
--- .. and for a chart a word in the chart kind's range
+-- for a chart, a reading gives a word in the range of the chart kind, or a refusal
 word-ind : (chartKind kind : ℕ) (a b c : ℤ) (P : word.Formed → Type 0)
     → ((w : ℤ) → inRange chartKind w ≡ true → P (word.formed w)) → ((n : ℕ) → n ≤ lastRefusal → P (word.refused n))
     → P (wordFor chartKind kind a b c)
@@ -98,7 +98,7 @@ word-ind chartKind kind a b c P forms declines =
     (λ same. reading-ind kind a b c P (λ w r. forms w (rw (eqb-true kind chartKind same) at r)) declines)
     (λ _. declines 4 (omega arith))
 
--- what holds of a declined call, and of each call that is not declined by what then is known, holds of the step
+-- P holds for the step, if it holds for a refused call, and for each accepted call. The premises state what is known in each case
 module _ (s : State) (P : Next → Type 0)
     (declines : (n : ℕ) → n ≤ lastRefusal → P (declined s n))
     (posts : (w : ℤ) → s .status ≡ 0 → length (s .series) < seriesMost → inRange (s .kind) w ≡ true → P (posting s w))
@@ -133,7 +133,7 @@ module _ (s : State) (P : Next → Type 0)
 
 -- ---- soundness is kept
 
--- a sound state with another series, status and open verdict that fit its kind and base
+-- a sound state stays sound with another series, status and open verdict that fit its kind and base
 changed-sound : (s : State) (series : List ℤ) (status openVerdict : ℕ) → Sound s
     → length series ≤ seriesMost → allInRange (s .kind) series ≡ true
     → noneOf (beyondControl (limitsFor s)) (heldWithin status series) ≡ true
@@ -154,7 +154,7 @@ changed-sound s series status openVerdict f most in-range within fits =
       status-fits = fits;
     })
 
--- a word that is added, its verdict and the status that the verdict sets: what soundness asks of them
+-- an added word, its verdict and the status that the verdict sets meet what soundness asks
 added-fits : (limits : Limits) (series : List ℤ) (w : ℤ) (v : ℕ) → v ≡ verdict limits (series ++ (w ∷ []))
     → noneOf (beyondControl limits) series ≡ true → let words = series ++ (w ∷ []) in
     (noneOf (beyondControl limits) (heldWithin (statusFor v) words) ≡ true) × (statusFits limits words (statusFor v) v ≡ true)
@@ -180,7 +180,7 @@ added-fits limits series w v e none =
       }),
     ))
 
--- a post adds a word in range where there is room
+-- a post adds a word in range to a series that has room
 pub posting-sound : (s : State) (w : ℤ) → sound s ≡ true → s .status ≡ 0 → length (s .series) < seriesMost
     → inRange (s .kind) w ≡ true → sound (posting s w .state) ≡ true
 unfolding posting addWord setStatus
@@ -192,7 +192,7 @@ posting-sound s w h free room r =
     changed-sound s words (statusFor v) v f (omega (arith, length-added (s .series) w))
     (in-range-added (s .kind) (s .series) w (f .series-in-range) r) (fits .0) (fits .1)
 
--- a reanalysis that passed puts a word in range and within the control limits into the place of the last
+-- a passed reanalysis replaces the last word by a word in range that is not beyond a control limit
 replaced-sound : (s : State) (w : ℤ) → sound s ≡ true → s .status ≡ 1 → inRange (s .kind) w ≡ true
     → beyondControl (limitsFor s) w ≡ false → sound (setStatus (replaceLast s w) 0 0) ≡ true
 unfolding replaceLast setStatus
@@ -206,7 +206,7 @@ replaced-sound s w h due r within =
     changed-sound s words 0 0 f (omega (arith, length-added before w, length-but-last (s .series)))
     (in-range-added (s .kind) before w before-in-range r) (rw (held-free 0 words refl) none) (free-fits (limitsFor s) words)
 
--- status 1 or 2 becomes 1 or 2, the verdict still open
+-- status 1 or 2 becomes 1 or 2, and the verdict stays open
 status-set-sound : (s : State) (status : ℕ) → sound s ≡ true → 1 ≤ s .status → 1 ≤ status → status ≤ 2
     → sound (setStatus s status (s .openVerdict)) ≡ true
 unfolding setStatus
@@ -246,7 +246,7 @@ pub correcting-sound : (s : State) → sound s ≡ true → s .status ≡ 2 → 
 unfolding correcting
 correcting-sound s h due = status-set-sound s 1 h (omega arith) (omega arith) (omega arith)
 
--- a renewal has fifteen words or more, of which the last fifteen are rejected from
+-- a renewal has fifteen words or more, and rejects from the last fifteen
 pub renewing-sound : (s : State) → sound s ≡ true → baseWanted ≤ length (s .base) + length (s .series)
     → sound (renewing s .state) ≡ true
 unfolding renewing
@@ -258,7 +258,7 @@ renewing-sound s h enough =
     fresh-sound (s .kind) (lastWords baseWanted all) (f .is-kind) (in-range-some (s .kind) (last-words-in-order baseWanted all) in-range)
     (omega arith) (omega arith)
 
--- every call, a declined one too
+-- every call, also a refused one
 pub step-sound : (s : State) (call : Call) → sound s ≡ true → sound (step s call .state) ≡ true
 step-sound s call h =
     step-ind s (λ next. sound (next .state) ≡ true)
@@ -271,7 +271,7 @@ step-sound s call h =
 
 -- ---- no refusal 14
 
--- the number by which an answer declines; 0 of an answer that does not
+-- the number of a refusal, and 0 for any other answer
 abbrev pub refusalNumber : Answer → ℕ
 refusalNumber (judged w v) = 0
 refusalNumber (reanalysed w passed) = 0
@@ -279,7 +279,7 @@ refusalNumber corrected = 0
 refusalNumber (renewed rounds removed) = 0
 refusalNumber (refused n) = n
 
--- a step declines by no number above 12, from any state at all
+-- from any state, a step never refuses with a number above 12
 pub step-refusal : (s : State) (call : Call) → refusalNumber (step s call .answer) ≤ lastRefusal
 unfolding posting reanalysing correcting renewing
 step-refusal s =
@@ -290,13 +290,13 @@ step-refusal s =
     (λ due. omega arith)
     (λ free enough. omega arith)
 
--- .. so not by 14
+-- so it never refuses with 14
 pub step-not-fourteen : (s : State) (call : Call) → step s call .answer ≡ refused 14 → ⊥
 step-not-fourteen s call e = omega (arith, step-refusal s call, ap refusalNumber e)
 
 -- ---- a renewal's counts
 
--- what `renewed-small` says of an answer
+-- what `renewed-small` says about an answer
 abbrev pub SmallCounts : Answer → Type 0
 SmallCounts answer = (rounds removed : ℕ) → answer ≡ renewed rounds removed → (rounds ≤ suc baseWanted) × (removed ≤ baseWanted)
 
@@ -309,7 +309,7 @@ renewing-small s enough rounds removed e =
     let same-removed : rejection (s .kind) words .removed ≡ removed = cc in
     omega (arith, rejection-counts (s .kind) words, rejection-rounds (s .kind) words)
 
--- rejection from fifteen words takes at most sixteen rounds and removes at most fifteen, from any state at all
+-- from any state, the rejection of a renewal takes at most sixteen rounds and removes at most fifteen words
 pub renewed-small : (s : State) (call : Call) (rounds removed : ℕ) → step s call .answer ≡ renewed rounds removed
     → (rounds ≤ suc baseWanted) × (removed ≤ baseWanted)
 unfolding posting reanalysing correcting
@@ -321,29 +321,29 @@ renewed-small s =
     (λ due rounds removed e. let z : _≡_ {A = ℕ} 0 1 = cc in absurd (omega arith))
     (λ free enough. renewing-small s enough)
 
--- ---- runs. The state after the first calls of a list is itself a state after a list, so what holds after any list holds of every state
--- that a run reaches
+-- ---- runs. The state after the first calls of a list is itself a state after a list. So what holds after any list holds for every state
+-- of a run
 
 pub after-sound : (s : State) (calls : List Call) → sound s ≡ true → sound (after s calls) ≡ true
 unfolding after
 after-sound s [] h = h
 after-sound s (call ∷ calls) h = after-sound (step s call .state) calls (step-sound s call h)
 
--- ten base words or more
+-- the base has ten words or more
 pub after-ten : (s : State) (calls : List Call) → sound s ≡ true → baseLeast ≤ length (after s calls .base)
 after-ten s calls h = sound-facts (after s calls) (after-sound s calls h) .base-least
 
--- status 0 and no open verdict; or status 1 or 2, with the verdict 1..4 that is open and is the one on the series' last word
+-- status 0 and no open verdict; or status 1 or 2, and the open verdict is the verdict 1..4 on the last word of the series
 pub after-status : (s : State) (calls : List Call) → sound s ≡ true → FreeOrOpen (after s calls)
 after-status s calls h = status-facts (after s calls) (after-sound s calls h)
 
--- 14 is not among the answers, from any state at all
+-- from any state, 14 is not among the answers
 pub answers-not-fourteen : (s : State) (calls : List Call) → Among (refused 14) (answers s calls) → ⊥
 unfolding answers
 answers-not-fourteen s (call ∷ calls) (first e) = step-not-fourteen s call (sym e)
 answers-not-fourteen s (call ∷ calls) (later m) = answers-not-fourteen (step s call .state) calls m
 
--- all of it, of a run from a sound state
+-- all of this, for a run from a sound state
 pub record SoundRun (s : State) (calls : List Call) : Type 0 where
   pub ends-sound : sound (after s calls) ≡ true
   pub ends-with-ten : baseLeast ≤ length (after s calls .base)
@@ -359,7 +359,7 @@ sound-run s calls h =
       not-fourteen = answers-not-fourteen s calls;
     }
 
--- .. so of every list of calls on a chart that building gives
+-- so the same holds for every list of calls on a chart that building gives
 pub built-run : (kind : ℕ) (words : List ℤ) (s : State) (rounds removed : ℕ) → building kind words ≡ built s rounds removed
     → (calls : List Call) → SoundRun s calls
 built-run kind words s rounds removed e calls = sound-run s calls (built-sound kind words s rounds removed e)

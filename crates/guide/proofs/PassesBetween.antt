@@ -1,6 +1,6 @@
--- Tests that a word passes where it lies between two words that pass (`PassesBetween`): to be in the range of a kind (`in-range-between`),
--- and to be beyond neither limit (`within-between`). For where a word is above the upper limit every greater word is (`above-more`), and
--- where a word is below the lower limit every lesser word is (`below-less`), at any multiple m of S and by any sums, also of no word.
+-- Tests that every word between two passing words passes too (`PassesBetween`): to be in the range of a kind (`in-range-between`), and to
+-- be beyond neither limit (`within-between`). If a word is above the upper limit, so is every greater word (`above-more`). If a word is
+-- below the lower limit, so is every lesser word (`below-less`). This holds at any multiple m of S and for any sums, also those of no word.
 use mathlib.Core.Path.{_≡_, refl, ap}
 use mathlib.Core.Bool.{Bool, true, not, or-true, false≢true}
 use Prim.Native.Nat.{ℕ, _+_, _*_, _-_, _≤_}
@@ -16,7 +16,7 @@ use Rattle.guide.proofs.Booleans.{both, either, by-test}
 use Rattle.guide.proofs.Integers.{Diff, of-pos, of-any, minus, times, plusPart, minusPart, square-magnitude, magnitude}
 use Rattle.guide.proofs.Integers.{less-yes, less-says, at-most-says, at-most-then}
 
--- a word between two that pass the test passes it
+-- a word between two words that pass the test passes it too
 abbrev pub PassesBetween : (ℤ → Bool) → Type 0
 PassesBetween test = (x y z : ℤ) → leZ x y ≡ true → leZ y z ≡ true → test x ≡ true → test z ≡ true → test y ≡ true
 
@@ -32,12 +32,12 @@ in-range-between kind x y z h k p q =
 
 -- ---- the limits
 
--- what is less than a is less than b
+-- a number less than a is less than b
 less-more : (z : ℤ) (a b : ℕ) → a ≤ b → ltZ z (pos a) ≡ true → ltZ z (pos b) ≡ true
 less-more (pos k) a b h t = lt-ltb k b (omega (arith, ltb-true k a t))
 less-more (negsuc k) a b h t = refl
 
--- with a deviation that is more than m·S, up or down, every deviation as large is
+-- if a deviation is more than m·S, up or down, so is every deviation that is at least as large
 exceeds-more : (m : ℕ) (s : Sums) (d e : ℤ) → natAbs d ≤ natAbs e → exceeds m s d ≡ true → exceeds m s e ≡ true
 unfolding exceeds
 exceeds-more m s d e h t =

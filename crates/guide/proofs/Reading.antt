@@ -1,8 +1,8 @@
--- The stored form, there and back. A record's bytes are read as that record (`record-*`), and bytes that are a record are its bytes
--- (`record-back`); so it is of the three (`form-is`, `form-held`, `form-back`). Then: a sound state that is written is read as the same
--- state (`read-stored`), bytes that are read are those that writing the state gives (`stored-read`), two sound states never have the same
--- bytes (`one-form`), 13 is answered of bytes that are no form of a state with as many words as a chart has, and of no others (`thirteen`,
--- `no-form`), and lists of calls from reading are sound (`read-run`).
+-- The stored form, written and read. The bytes of a record are read as that record (`record-*`), and bytes that are a record are its bytes
+-- (`record-back`). The same holds for the three records (`form-is`, `form-held`, `form-back`). A sound state that is written is read as the
+-- same state (`read-stored`). Accepted bytes are those that writing the state gives (`stored-read`). Two sound states never have the same
+-- bytes (`one-form`). Reading answers 13 exactly if the bytes are no form of a state with numbers of words that a chart can have
+-- (`thirteen`, `no-form`). Lists of calls from reading are sound (`read-run`).
 use mathlib.Core.Path.{_≡_, refl, sym, ap, ap₂, _∙_}
 use mathlib.Core.Bool.{Bool, true, false, _&&_}
 use mathlib.Core.List.{List, [], _∷_, _++_, map, append-nil}
@@ -27,7 +27,7 @@ use Rattle.guide.proofs.Machine.{SoundRun, sound-run}
 use Rattle.guide.proofs.Bytes.{length-bytes, numbers-there, length-numbers, words-back}
 use Rattle.guide.proofs.Bytes.{AreBytes, bytes-from, bytes-back, numbers-back}
 
--- ---- a record's bytes, and more after them
+-- ---- the bytes of a record, with more bytes after them
 
 pub length-record : (recordKind : ℕ) (ns : List ℕ) → length (recordOf recordKind ns) ≡ 4 + 2 * length ns
 unfolding recordOf bytesOf
@@ -87,7 +87,7 @@ record-facts bytes h =
     let even = eqb-true (n % 2) 0 (lengths .1) in
     record { length-is = omega arith; enough = leb-true (2 + n) (length bytes) (parts .1) }
 
--- they are the bytes of its record kind and its numbers, and what follows
+-- they are the bytes of its record kind and its numbers, followed by the bytes after the record
 pub record-back : (bytes : List ℕ) → AreBytes bytes → isRecord bytes ≡ true
     → recordOf (recordKindIn bytes) (recordNumbers bytes) ++ afterRecord bytes ≡ bytes
 unfolding recordOf bytesOf numbersIn lengthIn recordKindIn recordNumbers afterRecord
@@ -106,7 +106,7 @@ record-back bytes are h =
     ∙ (ap (λ (l : List ℕ). bytesOf (lengthIn bytes ∷ kind ∷ l) ++ drop (2 * suc (suc n)) bytes) (sym numbers)
     ∙ whole))
 
--- what the test of a record of a kind says
+-- what `startsWith` says
 pub record Starts (recordKind least most : ℕ) (bytes : List ℕ) : Type 0 where
   pub is-record : isRecord bytes ≡ true
   pub kind-is : recordKindIn bytes ≡ recordKind
@@ -131,7 +131,7 @@ starts-facts recordKind least most bytes h =
 
 -- ---- the form of a state
 
--- as many words as a chart has
+-- numbers of words that a chart can have
 pub record WordCounts (s : State) : Type 0 where
   pub base-least : baseLeast ≤ length (s .base)
   pub base-most : length (s .base) ≤ baseMost
@@ -177,7 +177,7 @@ module _ (s : State) where
         series-length,
       )
 
-  -- it is the three records, where the counts are those of a chart
+  -- the form is three records, if the numbers of words are those of a chart
   pub form-is : WordCounts s → isForm (storedForm s) ≡ true
   unfolding isForm storedForm headNumbers fromBaseIs
   form-is counts =
@@ -192,7 +192,7 @@ module _ (s : State) where
       ap (λ (l : List ℕ). length (afterRecord l)) series-there ∙ ap length (record-after 3 (map numberOf (s .series)) []) in
       rw (head, base, series, end)
 
-  -- .. and what they hold is the state, where its words are words
+  -- the records hold the state, if each word is the word of its number
   pub form-held : map wordOf (map numberOf (s .base)) ≡ s .base → map wordOf (map numberOf (s .series)) ≡ s .series
       → heldIn (storedForm s) ≡ s
   unfolding heldIn storedForm headNumbers fromBaseIs
@@ -259,7 +259,7 @@ module _ (bytes : List ℕ) (are : AreBytes bytes) (h : isForm bytes ≡ true) w
   unfolding fromSeries afterRecord
   series-bytes = bytes-from (fromBase bytes) (2 + lengthIn (fromBase bytes)) base-bytes
 
-  -- each record again, from what is held
+  -- each record, made again from the state that the bytes hold
   head-again : recordOf 1 (headNumbers (heldIn bytes)) ≡ recordOf (recordKindIn bytes) (recordNumbers bytes)
   unfolding headNumbers heldIn recordNumbers
   head-again =
@@ -277,7 +277,7 @@ module _ (bytes : List ℕ) (are : AreBytes bytes) (h : isForm bytes ≡ true) w
   unfolding heldIn
   series-again = ap₂ recordOf (sym (form-facts bytes h .series .kind-is)) (words-numbers (fromSeries bytes) series-bytes)
 
-  -- .. and what follows each, from the record's own bytes on
+  -- each record, followed by the bytes after it, is the bytes from its start on
   head-whole : recordOf (recordKindIn bytes) (recordNumbers bytes) ++ fromBase bytes ≡ bytes
   unfolding fromBase
   head-whole = record-back bytes are (form-facts bytes h .head .is-record)
@@ -303,7 +303,7 @@ module _ (bytes : List ℕ) (are : AreBytes bytes) (h : isForm bytes ≡ true) w
 
 -- ---- reading
 
--- what a reading that is not declined says of the bytes
+-- what is known if reading accepts the bytes
 pub record Taken (bytes : List ℕ) (s : State) : Type 0 where
   pub is-form : isForm bytes ≡ true
   pub is-held : heldIn bytes ≡ s
@@ -325,7 +325,7 @@ taken-facts bytes s e =
 pub read-sound : (bytes : List ℕ) (s : State) → reading bytes ≡ taken s → sound s ≡ true
 read-sound bytes s e = taken-facts bytes s e .is-sound
 
--- a sound state's form is read as that state
+-- the form of a sound state is read as that state
 pub read-stored : (s : State) → sound s ≡ true → reading (storedForm s) ≡ taken s
 unfolding reading
 read-stored s h =
@@ -335,7 +335,7 @@ read-stored s h =
     record { base-least = f .base-least; base-most = f .base-most; series-most = f .series-most } in
     rw (form-is s counts, held, h)
 
--- bytes that are read are those that writing the state gives
+-- accepted bytes are those that writing the state gives
 pub stored-read : (bytes : List ℕ) (s : State) → AreBytes bytes → reading bytes ≡ taken s → storedForm s ≡ bytes
 stored-read bytes s are e =
     let facts = taken-facts bytes s e in
@@ -344,7 +344,7 @@ stored-read bytes s are e =
 same-taken : {s t : State} → taken s ≡ taken t → s ≡ t
 same-taken e = cc
 
--- two sound states that have the same bytes are one
+-- two sound states with the same bytes are the same
 pub one-form : (s t : State) → sound s ≡ true → sound t ≡ true → storedForm s ≡ storedForm t → s ≡ t
 one-form s t h k e = same-taken (sym (read-stored s h) ∙ (ap reading e ∙ read-stored t k))
 
@@ -354,19 +354,19 @@ not-thirteen true true held t x = let z : _≡_ {A = ℕ} 0 1 = cc in omega arit
 not-thirteen true false held t x = let z : _≡_ {A = ℕ} 14 13 = cc in omega arith
 not-thirteen false whole held t x = let z : _≡_ {A = ℕ} 0 1 = cc in omega arith
 
--- 13 is answered of no bytes that are the form of a state with as many words as a chart has, whatever the words and the other numbers are
+-- reading never answers 13 for the form of a state with numbers of words that a chart can have, whatever its words and other numbers are
 pub no-form : (bytes : List ℕ) → reading bytes ≡ refused 13
     → (s : State) → WordCounts s → storedForm s ≡ bytes → ⊥
 unfolding reading
 no-form bytes e s counts same =
     not-thirteen (isForm bytes) (sound (heldIn bytes)) (heldIn bytes) (ap isForm (sym same) ∙ form-is s counts) e
 
--- the numbers of words that bytes hold
+-- how many words the bytes hold
 words-held : (bytes : List ℕ) → length (map wordOf (recordNumbers bytes)) ≡ countIn bytes
 unfolding recordNumbers
 words-held bytes = length-map (recordNumbers bytes) wordOf ∙ length-numbers (countIn bytes) (drop 4 bytes)
 
--- .. and of all other bytes it is answered
+-- reading answers 13 for all other bytes
 pub thirteen : (bytes : List ℕ) → AreBytes bytes → ((s : State) → WordCounts s → storedForm s ≡ bytes → ⊥)
     → reading bytes ≡ refused 13
 unfolding reading heldIn
@@ -385,6 +385,6 @@ thirteen bytes are none =
     absurd (none (heldIn bytes) counts (form-back bytes are t)))
     (λ t. rw t)
 
--- every list of calls on a chart that reading gives
+-- every list of calls on a chart that reading gives is sound
 pub read-run : (bytes : List ℕ) (s : State) → reading bytes ≡ taken s → (calls : List Call) → SoundRun s calls
 read-run bytes s e calls = sound-run s calls (read-sound bytes s e)

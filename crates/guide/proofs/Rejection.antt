@@ -1,6 +1,6 @@
--- Laws of rejection. `rejection-ends` and `rejection-goes-on` are its two equations, and `rejection-ind` the induction that they give; the
--- rest follows by it: rounds and removals are counted as the paper counts, the words left are in their old order, none is
--- beyond the limits of the words left, and of ten words or more at least ten are left.
+-- Laws of rejection. `rejection-ends` and `rejection-goes-on` are its two equations, and `rejection-ind` is the induction that they give.
+-- The rest follows by it: rounds and removals are counted as in the paper, the words left are in their old order, none of them is beyond
+-- their own control limits, and of ten words or more at least ten are left.
 use mathlib.Core.Path.{_≡_, refl, ap}
 use mathlib.Core.Bool.{true}
 use mathlib.Core.List.{List, [], _∷_}
@@ -42,13 +42,13 @@ round-keeps-order : (kind : ℕ) (ws : List ℤ) → InOrder (afterRound kind ws
 unfolding afterRound
 round-keeps-order kind ws = without-keeps-order (beyondControl (limitsOf kind ws)) ws
 
--- a round that removes nothing leaves the words, none of which is beyond their own limits
+-- a round that removes nothing leaves all words, and none of them is beyond their own control limits
 pub round-removes-nothing : (kind : ℕ) (ws : List ℤ) → length (afterRound kind ws) ≡ length ws
     → RemovesNothing (beyondControl (limitsOf kind ws)) ws (afterRound kind ws)
 unfolding afterRound
 round-removes-nothing kind ws = without-removes-nothing (beyondControl (limitsOf kind ws)) ws
 
--- 9·j < n − 1 for j words removed of n, by the law for any multiple: so of ten or more ten are left
+-- if a round removes j of n words, 9·j < n − 1, by the law for any multiple of S. So of ten words or more at least ten are left
 ten-left : (n left j : ℕ) → baseLeast ≤ n → n ≡ left + j → ((i : ℕ) → j ≡ suc i → controlMultiple * controlMultiple * suc i < n - 1)
     → baseLeast ≤ left
 ten-left n left zero h e f = omega arith
@@ -65,7 +65,7 @@ round-leaves-ten kind ws h =
 
 -- ---- rejection
 
--- enough rounds are allowed for, and more make no difference
+-- if more rounds are allowed than there are words, it makes no difference how many
 enough : (i j kind : ℕ) (ws : List ℤ) → length ws < i → length ws < j → rejectionWithin i kind ws ≡ rejectionWithin j kind ws
 unfolding rejectionWithin
 enough zero j kind ws h k = absurd (omega arith)
@@ -91,7 +91,7 @@ rejection-goes-on kind ws h =
     rw (ne-eqb (length r) (length ws) (λ e. omega arith))
     (ap (oneMoreRound (length ws - length r)) (enough (length ws) (suc (length r)) kind r (omega arith) (omega arith)))
 
--- what holds of the last round, and of a round more where it holds of the rounds after it, holds of rejection
+-- P holds for rejection, if it holds for the last round, and for one more round when it holds for the rounds after it
 module _ (kind : ℕ) (P : List ℤ → RejectionAnswer → Type 0)
     (last : (ws : List ℤ) → length (afterRound kind ws) ≡ length ws → P ws (lastRound ws))
     (more : (ws : List ℤ) (r : RejectionAnswer) → length (afterRound kind ws) < length ws → P (afterRound kind ws) r
@@ -116,7 +116,7 @@ pub rejection-counts : (kind : ℕ) (ws : List ℤ) → rejection kind ws .remov
 rejection-counts kind =
     rejection-ind kind (λ ws r. r .removed + length (r .base) ≡ length ws) (λ ws e. omega arith) (λ ws r s h. omega arith)
 
--- there is a round, and each but the last removes a word
+-- there is at least one round, and each round but the last removes a word
 pub rejection-rounds : (kind : ℕ) (ws : List ℤ)
     → (1 ≤ rejection kind ws .rounds) × (rejection kind ws .rounds ≤ suc (rejection kind ws .removed))
 rejection-rounds kind =

@@ -1,5 +1,6 @@
--- Laws of soundness: its facts by name, both ways (`sound-facts`, `sound-from`); status and open verdict of a sound state (`status-facts`);
--- and a fresh chart of what rejection leaves is sound (`fresh-sound`), so what building gives is (`built-sound`).
+-- Laws of soundness: its facts by name, in both directions (`sound-facts`, `sound-from`); status and open verdict of a sound state
+-- (`status-facts`). A fresh chart of the words that rejection leaves is sound (`fresh-sound`), and so is the chart that building gives
+-- (`built-sound`).
 use mathlib.Core.Path.{_≡_, refl}
 use mathlib.Core.Bool.{true}
 use mathlib.Core.List.{List, []}
@@ -107,7 +108,7 @@ module _ (limits : Limits) (series : List ℤ) (status openVerdict : ℕ) where
         verdict-is = eqb-true openVerdict (verdict limits series) (verdict-rest .1);
       }
 
-  -- .. the facts give the test
+  -- the facts give the test of an open verdict
   pub open-from : OpenFacts limits series status openVerdict → openFits limits series status openVerdict ≡ true
   unfolding openFits
   open-from f =
@@ -120,7 +121,7 @@ module _ (limits : Limits) (series : List ℤ) (status openVerdict : ℕ) where
         eq-eqb openVerdict (verdict limits series) (f .verdict-is),
       )
 
-  -- .. and so status and open verdict fit
+  -- so status and open verdict fit
   pub open-fits : OpenFacts limits series status openVerdict → statusFits limits series status openVerdict ≡ true
   unfolding statusFits
   open-fits f = rw (ne-eqb status 0 (λ e. omega arith)) (open-from f)
@@ -130,7 +131,7 @@ pub free-fits : (limits : Limits) (series : List ℤ) → statusFits limits seri
 unfolding statusFits
 free-fits limits series = refl
 
--- the open verdict of a sound state: 0 while status is 0, and otherwise as the facts say
+-- the open verdict of a sound state: 0 while the status is 0, and otherwise as the facts say
 pub free-verdict : (s : State) → Sound s → s .status ≡ 0 → s .openVerdict ≡ 0
 unfolding statusFits
 free-verdict s f e = eqb-true (s .openVerdict) 0 (rw (eq-eqb (s .status) 0 e) at (f .status-fits))
@@ -145,7 +146,7 @@ pub data FreeOrOpen (s : State) : Type 0 where
   free : s .status ≡ 0 → s .openVerdict ≡ 0 → FreeOrOpen s
   opened : OpenFacts (limitsFor s) (s .series) (s .status) (s .openVerdict) → FreeOrOpen s
 
--- a sound state is the one or the other
+-- a sound state is free or has an open verdict
 pub status-facts : (s : State) → sound s ≡ true → FreeOrOpen s
 status-facts s h =
     let f = sound-facts s h in
@@ -153,7 +154,7 @@ status-facts s h =
     (λ t. let e = eqb-true (s .status) 0 t in free e (free-verdict s f e))
     (λ t. opened (not-free-facts s f (eqb-false (s .status) 0 t)))
 
--- ---- the series words that are held within the control limits: all while status is 0, else all but the last
+-- ---- the words of the series that must not be beyond a control limit: all while the status is 0, else all but the last
 
 pub held-free : (status : ℕ) (series : List ℤ) → status ≡ 0 → heldWithin status series ≡ series
 unfolding heldWithin
@@ -163,7 +164,7 @@ pub held-open : (status : ℕ) (series : List ℤ) → 1 ≤ status → heldWith
 unfolding heldWithin
 held-open status series h = rw (ne-eqb status 0 (λ e. omega arith))
 
--- .. so of a sound state no such word is beyond a control limit
+-- so in a sound state none of these words is beyond a control limit
 pub within-free : (s : State) → Sound s → s .status ≡ 0 → noneOf (beyondControl (limitsFor s)) (s .series) ≡ true
 within-free s f e = rw (held-free (s .status) (s .series) e) at (f .series-within)
 
@@ -172,7 +173,7 @@ within-open s f h = rw (held-open (s .status) (s .series) h) at (f .series-withi
 
 -- ---- a fresh chart is sound
 
--- of what rejection leaves of 10..32 words in range
+-- its base is what rejection leaves of 10..32 words in range
 module _ (kind : ℕ) (words : List ℤ) (is-kind : isKind kind ≡ true) (in-range : allInRange kind words ≡ true)
     (least : baseLeast ≤ length words) (most : length words ≤ baseMost) where
   fresh-facts : Sound (fresh kind (rejection kind words .base))
@@ -197,14 +198,14 @@ module _ (kind : ℕ) (words : List ℤ) (is-kind : isKind kind ≡ true) (in-ra
 
 -- ---- building
 
--- what building is declined for does not apply
+-- no refusal of building applies
 pub record CanBuild (kind : ℕ) (words : List ℤ) : Type 0 where
   pub is-kind : isKind kind ≡ true
   pub least : baseWanted ≤ length words
   pub most : length words ≤ baseMost
   pub in-range : allInRange kind words ≡ true
 
--- .. by the number of the refusal
+-- this follows if the number of the refusal is 0
 pub can-build : (kind : ℕ) (words : List ℤ) → buildRefusal kind words ≡ 0 → CanBuild kind words
 unfolding buildRefusal isBuildCount
 can-build kind words h =
@@ -219,7 +220,7 @@ can-build kind words h =
       in-range = ranges .0;
     }
 
--- an answer that is a chart was not declined, and is the chart of the answer that was to be given
+-- if `orRefused` gives a chart, the number is 0, and the chart is the one of its second argument
 not-refused : (n : ℕ) (s t : State) (rounds removed x y : ℕ) → orRefused n (built t x y) ≡ built s rounds removed → (n ≡ 0) × (t ≡ s)
 not-refused zero s t rounds removed x y e = (refl, cc)
 not-refused (suc n) s t rounds removed x y e = let z : _≡_ {A = ℕ} 0 1 = cc in absurd (omega arith)

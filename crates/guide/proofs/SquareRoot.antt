@@ -1,4 +1,4 @@
--- The whole part of a square root is the greatest whole number whose square is at most q (`root-is`), and there is no other (`root-only`).
+-- The whole part of a square root is the greatest whole number whose square is at most q (`root-is`), and no other number is (`root-only`).
 use mathlib.Core.Path.{_≡_}
 use Prim.Native.Nat.{ℕ, zero, suc, _+_, _*_, _/_, _^_, _<_, _≤_}
 use native.Mathlib.Omega.{arith}
@@ -12,7 +12,7 @@ use Rattle.guide.specs.SquareRoot.{rootWithin, squareRoot, IsRoot}
 use Rattle.guide.proofs.Choice.{choose-ind}
 use Rattle.guide.proofs.Integers.{by-order}
 
--- r is the root of q / 4, so the root of q is 2·r or one more
+-- if r is the root of q / 4, the root of q is 2·r or one more
 root-more : (q r : ℕ) → IsRoot (q / 4) r → IsRoot q (choose (leb ((2 * r + 1) * (2 * r + 1)) q) (2 * r + 1) (2 * r))
 root-more q r is =
     choose-ind (IsRoot q) (leb ((2 * r + 1) * (2 * r + 1)) q) (2 * r + 1) (2 * r)
@@ -28,7 +28,7 @@ pub root-is : (q : ℕ) → IsRoot q (squareRoot q)
 unfolding squareRoot
 root-is q = root-within (size q) q (size-lt q)
 
--- two roots are not apart
+-- a root of q is not more than another root of q
 not-more : (q r s : ℕ) → IsRoot q r → IsRoot q s → r ≤ s
 not-more q r s a b =
     by-order s r (λ h. h)

@@ -1,4 +1,4 @@
--- A sound state's stored form is bytes (`stored-bytes`): each is below 256, since every number that is stored is below 65536.
+-- The stored form of a sound state is bytes (`stored-bytes`): each is below 256, because every stored number is below 65536.
 use mathlib.Core.Path.{_≡_}
 use mathlib.Core.Bool.{true}
 use mathlib.Core.List.{List, [], _∷_, _++_, map}

@@ -1,4 +1,4 @@
--- Laws of the verdict: it is at most 4; where it is 0 the last word is not beyond a control limit; and the status that it sets.
+-- Laws of the verdict: it is at most 4. If it is 0, the last word is not beyond a control limit. Then the status that it sets.
 use mathlib.Core.Path.{_≡_, refl}
 use mathlib.Core.Bool.{Bool, false, true, _&&_}
 use mathlib.Core.List.{List, [], _∷_, _++_}
@@ -14,7 +14,7 @@ use Rattle.guide.proofs.Booleans.{both, by-test}
 use Rattle.guide.proofs.Choice.{choose-ind}
 use Rattle.guide.proofs.LastWords.{length-added, last-word-added}
 
--- every test's verdict is at most m, so the first's is
+-- the verdict of every test is at most m. Then so is the verdict of the first test that holds
 verdictsWithin : ℕ → List (Bool × ℕ) → Bool
 verdictsWithin m [] = true
 verdictsWithin m (test ∷ tests) = leb (test .1) m && verdictsWithin m tests
@@ -32,7 +32,7 @@ pub verdict-at-most-four : (limits : Limits) (series : List ℤ) → verdict lim
 unfolding verdict verdictsWithin
 verdict-at-most-four limits series = first-within 4 _ refl
 
--- verdict 0: the control test, the first of the four, failed of the word that was added
+-- if the verdict is 0, the control test, which is the first of the four, failed for the added word
 pub no-verdict-within : (limits : Limits) (series : List ℤ) (w : ℤ)
     → verdict limits (series ++ (w ∷ [])) ≡ 0 → beyondControl limits w ≡ false
 unfolding verdict firstVerdict controlTest

@@ -10,7 +10,7 @@ use Rattle.guide.specs.Choice.{choose}
 use Rattle.guide.specs.AllOf.{allOf, noneOf}
 use Rattle.guide.specs.Rejection.{without, InOrder, none, kept, removed}
 
--- what holds of no words, and of one word more whether it is removed or kept, holds of any words and what is left of them
+-- P holds for any words and the words left of them, if it holds for no words, and for one more word, removed or kept
 module _ (test : ℤ → Bool) (P : List ℤ → List ℤ → Type 0) (empty : P [] [])
     (goes : (w : ℤ) (ws left : List ℤ) → test w ≡ true → P ws left → P (w ∷ ws) left)
     (stays : (w : ℤ) (ws left : List ℤ) → test w ≡ false → P ws left → P (w ∷ ws) (w ∷ left)) where

@@ -1,5 +1,5 @@
--- Laws of rounding: `nearest` is a nearest whole number, of two the one farther from zero (`nearest-is`), and nothing else is
--- (`nearest-only`). `natural-only` is the same of natural numbers, by the bounds that a quotient has.
+-- Laws of rounding: `nearest` gives a nearest whole number, and of two the one farther from zero (`nearest-is`). No other number is that
+-- (`nearest-only`). `natural-only` says the same for natural numbers, by the bounds of a quotient.
 use mathlib.Core.Path.{_≡_, refl, sym, ap}
 use Prim.Native.Nat.{ℕ, zero, suc, _+_, _-_, _*_, _/_, _%_, _<_, _≤_}
 use native.Mathlib.Omega.{arith}
@@ -37,7 +37,7 @@ nearest-is (negsuc n) d h =
     let m = magnitude (minus (times d (negated (of-pos {n = r}))) (of-neg {n = n})) in
     record { close = omega arith; away = λ e. omega (arith, ap (λ (x : ℕ). d * x) (magnitude-negated (pos r))) }
 
--- x is within d / 2 of n, and not just d / 2 below it
+-- x is at most d / 2 away from n, and not exactly d / 2 below it
 not-half-below : (n x d m : ℕ) → m ≡ distance x n → 2 * m ≤ d → (2 * m ≡ d → n < x) → 2 * n < 2 * x + d
 not-half-below n x d m e close away =
     by-order (2 * n) (2 * x + d) (λ h. absurd (omega (arith, away (omega arith)))) (λ h. h)
@@ -60,7 +60,7 @@ nearest-only (negsuc n) d (negsuc k) h i =
     ap (λ (x : ℕ). negℤ (pos x))
     (natural-only (suc n) d (suc k) (omega (arith, i .close)) (not-half-below (suc n) (d * suc k) d _ (omega arith) (i .close) (i .away)))
 
--- ---- natural numbers, by a quotient and what is left over
+-- ---- natural numbers, by quotient and remainder
 
 pub half-or-more : (n d : ℕ) → 0 < d → d - n % d ≤ n % d → n / d + 1 ≡ nearestNatural n d
 half-or-more n d h t =
@@ -68,7 +68,7 @@ half-or-more n d h t =
     let left = mod-lt n h in
     natural-only n d (n / d + 1) (omega arith) (omega arith)
 
--- one more than the quotient is no more than the numerator, where something is left over
+-- if the remainder is half of the divisor or more, one more than the quotient is at most the numerator
 pub one-more-small : (n d : ℕ) → 0 < d → d - n % d ≤ n % d → n / d + 1 ≤ n
 one-more-small n d h t =
     let parts = div-add-mod' n d in
@@ -80,7 +80,7 @@ less-than-half n d t =
     let parts = div-add-mod' n d in
     natural-only n d (n / d) (omega arith) (omega arith)
 
--- ---- the sign goes through rounding
+-- ---- rounding a negative number
 
 nearest-of-zero : (d : ℕ) → 0 < d → 0 ≡ nearestNatural 0 d
 nearest-of-zero d h = natural-only 0 d 0 (omega arith) (omega arith)

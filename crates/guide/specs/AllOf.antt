@@ -1,4 +1,4 @@
--- Every word passes a test; none does.
+-- Whether every word passes a test, and whether no word passes it.
 use mathlib.Core.Bool.{Bool, true, _&&_, not}
 use mathlib.Core.List.{List, [], _∷_}
 use lib.IntN.{ℤ}

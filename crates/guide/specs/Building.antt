@@ -12,7 +12,7 @@ use Rattle.guide.specs.Kind.{isKind, inRange}
 use Rattle.guide.specs.Rejection.{RejectionAnswer, rejection}
 use Rattle.guide.specs.State.{State, fresh}
 
--- the words are as many as building takes: "15..32 words"
+-- building takes this number of words: "15..32 words"
 unfoldable pub isBuildCount : List ℤ → Bool
 isBuildCount words = leb baseWanted (length words) && leb (length words) baseMost
 
@@ -20,18 +20,18 @@ isBuildCount words = leb baseWanted (length words) && leb (length words) baseMos
 unfoldable pub allInRange : ℕ → List ℤ → Bool
 allInRange kind words = allOf (inRange kind) words
 
--- "Building answers the chart, the rounds and the number removed", or the number for what is declined. The "chart of zeros" that goes with
--- a refusal is a value of the program's type: `chart/specs/Chart` has it
+-- "Building answers the chart, the rounds and the number removed", or the number of the refusal. The "chart of zeros" of a refused build is
+-- a value of the program's type: `chart/specs/Chart` defines it
 pub data BuildingAnswer : Type 0 where
   built : State → (rounds removed : ℕ) → BuildingAnswer
   refused : ℕ → BuildingAnswer
 
--- a fresh chart of the base that rejection leaves. It is the machine's "start after building: the chart kind given, the base that rejection
--- leaves of the words given, an empty series, status 0, open verdict 0"
+-- a fresh chart with the base that rejection leaves. It is the machine's "start after building: the chart kind given, the base that
+-- rejection leaves of the words given, an empty series, status 0, open verdict 0"
 abbrev pub builtFrom : ℕ → RejectionAnswer → BuildingAnswer
 builtFrom kind r = built (fresh kind (r .base)) (r .rounds) (r .removed)
 
--- "the first number that applies", or 0 where none does: 1 "kind not 1..3", 2 "not 15..32 words", 3 "a word out of range"
+-- "the first number that applies", or 0 if none does: 1 "kind not 1..3", 2 "not 15..32 words", 3 "a word out of range"
 unfoldable pub buildRefusal : ℕ → List ℤ → ℕ
 buildRefusal kind words =
     require (isKind kind) 1

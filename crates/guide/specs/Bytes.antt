@@ -7,16 +7,16 @@ use lib.Dec.{ltb}
 use lib.IntN.{ℤ, pos, negsuc, negℤ}
 use Rattle.guide.specs.Choice.{choose}
 
--- the bytes of numbers: of each two, the lower first
+-- two bytes for each number, the lower byte first
 unfoldable pub bytesOf : List ℕ → List ℕ
 bytesOf [] = []
 bytesOf (n ∷ ns) = n % 256 ∷ n / 256 ∷ bytesOf ns
 
--- the number in the first two bytes; a byte that is missing counts as 0
+-- the number in the first two bytes. A missing byte counts as 0
 unfoldable pub numberIn : List ℕ → ℕ
 numberIn bytes = getD bytes 0 0 + 256 * getD bytes 1 0
 
--- the first n numbers
+-- the first n numbers in the bytes
 unfoldable pub numbersIn : ℕ → List ℕ → List ℕ
 numbersIn zero bytes = []
 numbersIn (suc n) bytes = numberIn bytes ∷ numbersIn n (drop 2 bytes)
@@ -26,6 +26,6 @@ unfoldable pub numberOf : ℤ → ℕ
 numberOf (pos n) = n
 numberOf (negsuc n) = 65536 - suc n
 
--- the word that a number stands for: from 32768 on, 65536 is taken away
+-- the word that a number stands for: 65536 is subtracted from a number of 32768 or more
 unfoldable pub wordOf : ℕ → ℤ
 wordOf n = choose (ltb n 32768) (pos n) (negℤ (pos (65536 - n)))

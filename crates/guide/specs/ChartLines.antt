@@ -1,4 +1,4 @@
--- Document 01, "Lines for the plotter": the lines of a chart, as doubles, and a word against them.
+-- Document 01, "Lines for the plotter": the lines of a chart as doubles, and the comparison of a word with them.
 use mathlib.Core.Path.{_≡_}
 use mathlib.Core.Bool.{Bool, true, false}
 use Prim.Native.Nat.{ℕ}
@@ -18,12 +18,12 @@ pub data Lines : Type 0 where
   duplicate : (mean upperWarning upperControl : Float) → Lines
   twoSided : (mean lowerWarning upperWarning lowerControl upperControl : Float) → Lines
 
--- the lines, or the number for what is declined. 14 is decided of the chart that is handed in: `lines/specs/Lines`
+-- the lines, or the number of the refusal. Refusal 14 is about the program's chart: `lines/specs/Lines` defines it
 pub data ChartLinesAnswer : Type 0 where
   linesGiven : Lines → ChartLinesAnswer
   refused : ℕ → ChartLinesAnswer
 
--- the lines that limits give
+-- the lines for these limits
 unfoldable pub linesOf : Limits → Lines
 linesOf limits =
     let s = limits .sums in
@@ -36,7 +36,7 @@ linesOf limits =
     (twoSided mean lowerWarning upperWarning lowerControl upperControl)
     (duplicate mean upperWarning upperControl)
 
--- ---- a word against the limits, and against the lines
+-- ---- a word compared with the limits and with the lines
 
 -- whether a word is beyond each of the limits
 pub record BeyondEach : Type 0 where
@@ -45,7 +45,7 @@ pub record BeyondEach : Type 0 where
   pub lowerControl : Bool
   pub upperControl : Bool
 
--- by the exact limits
+-- judged by the exact limits
 unfoldable pub beyondEach : Limits → ℤ → BeyondEach
 beyondEach limits w =
     record {
@@ -55,15 +55,15 @@ beyondEach limits w =
       upperControl = beyondUpper controlMultiple limits w;
     }
 
--- "a word w against the double as 256w against k": w is above the line x; below it
+-- "a word w against the double as 256w against k". `aboveLine`: w is above the line x. `belowLine`: w is below it
 unfoldable pub aboveLine : Float → ℤ → Bool
 aboveLine x w = ltZ (partsIn x) (pos lineParts *ℤ w)
 
 unfoldable pub belowLine : Float → ℤ → Bool
 belowLine x w = ltZ (pos lineParts *ℤ w) (partsIn x)
 
--- a word against each limit that lines have, by what it is to be above a line and below it. "The mean line is no limit, and no word is
--- judged by its double." Lines of kind 1 have no lower limit
+-- a word compared with the line of each limit. `above` and `below` compare a word with one line. "The mean line is no limit, and no word is
+-- judged by its double." Kind 1 has no lower limits
 unfoldable pub beyondBy : (above below : Float → ℤ → Bool) → Lines → ℤ → BeyondEach
 beyondBy above below (duplicate mean upperWarning upperControl) w =
     record {
@@ -80,40 +80,41 @@ beyondBy above below (twoSided mean lowerWarning upperWarning lowerControl upper
       upperControl = above upperControl w;
     }
 
--- by the lines
+-- judged by the lines
 unfoldable pub beyondLines : Lines → ℤ → BeyondEach
 beyondLines lines w = beyondBy aboveLine belowLine lines w
 
--- ---- what demand 3 says of the lines' doubles, for the whole number k that is read off each
+-- ---- what demand 3 says about the double x of a line. k is the whole number `partsIn x`
 
--- the double denotes k / 256, and its bits are those of k / 256
+-- x denotes k / 256, it is the double `doubleOf k`, and its bits are `bitsOf k`
 pub record IsLineDouble (x : Float) : Type 0 where
   pub denotes : Denotes x (partsIn x)
   pub same : x ≡ doubleOf (partsIn x)
   pub bits : toBits binary64 x ≡ bitsOf (partsIn x)
 
--- an upper limit: k is the greatest not above 256 times the exact limit, and less than 1 away from it; and any word w lies above the double
--- exactly if it lies above the exact limit
+-- an upper limit: k is the greatest whole number not above 256 times the exact limit, and it is less than 1 away from that. Any word w lies
+-- above the double exactly if it lies above the exact limit
 pub record IsUpperDouble (m : ℕ) (s : Sums) (x : Float) : Type 0 where
   pub double : IsLineDouble x
   pub line : IsUpperLine m s (partsIn x)
   pub close : partsAbove m s (partsIn x +ℤ pos 1) ≡ true
   pub judges : (w : ℤ) → aboveLine x w ≡ above m s w
 
--- a lower limit: the least not below, and the like
+-- a lower limit: k is the least whole number not below 256 times the exact limit, and it is less than 1 away from that. Any word w lies
+-- below the double exactly if it lies below the exact limit
 pub record IsLowerDouble (m : ℕ) (s : Sums) (x : Float) : Type 0 where
   pub double : IsLineDouble x
   pub line : IsLowerLine m s (partsIn x)
   pub close : partsBelow m s (partsIn x -ℤ pos 1) ≡ true
   pub judges : (w : ℤ) → belowLine x w ≡ below m s w
 
--- the mean line, by which no word is judged
+-- the mean line: k is the greatest whole number not above 256 times the mean, and it is less than 1 away from that. No word is judged by it
 pub record IsMeanDouble (s : Sums) (x : Float) : Type 0 where
   pub double : IsLineDouble x
   pub line : IsMeanLine s (partsIn x)
   pub close : partsAboveMean s (partsIn x +ℤ pos 1) ≡ true
 
--- all lines that a chart with these limits has: kind 1 has three, the others five
+-- all lines of a chart with these limits: kind 1 has three, the other kinds five
 pub record AreDuplicateDoubles (limits : Limits) (mean upperWarning upperControl : Float) : Type 0 where
   pub kind : hasLower (limits .kind) ≡ false
   pub of-mean : IsMeanDouble (limits .sums) mean
@@ -133,7 +134,7 @@ AreLineDoubles limits (duplicate mean upperWarning upperControl) = AreDuplicateD
 AreLineDoubles limits (twoSided mean lowerWarning upperWarning lowerControl upperControl) =
     AreTwoSidedDoubles limits mean lowerWarning upperWarning lowerControl upperControl
 
--- the answer is lines, and these are so
+-- the answer is lines and no refusal, and `AreLineDoubles` holds for them
 abbrev pub AnswersLineDoubles : Limits → ChartLinesAnswer → Type 0
 AnswersLineDoubles limits (linesGiven lines) = AreLineDoubles limits lines
 AnswersLineDoubles limits (refused n) = ⊥

@@ -1,5 +1,5 @@
--- Document 01, "Figures from the course": the starred figures. A row is what the definitions give, and what the course says, as
--- numbers. `proofs/Figures` covers the table by one theorem; the figures without a star are among the vectors of `control_chart`.
+-- Document 01, "Figures from the course": the starred figures. A row holds what the definitions give and what the course says, both as
+-- numbers. One theorem in `proofs/Figures` covers the table. The figures without a star are among the vectors of `control_chart`.
 use mathlib.Core.Bool.{Bool, true, false}
 use mathlib.Core.List.{List, [], _∷_, _++_, map}
 use Prim.Native.Nat.{ℕ, _+_, _*_, _-_}
@@ -20,7 +20,7 @@ pub record Row : Type 0 where
 
 -- ---- answers as numbers
 
--- a refusal stands as two numbers, so that it is no word
+-- a refusal becomes two numbers, so that it differs from every word
 abbrev pub wordNumbers : word.Formed → List ℤ
 wordNumbers (word.formed w) = w ∷ []
 wordNumbers (word.refused n) = pos n ∷ pos n ∷ []
@@ -38,7 +38,7 @@ abbrev pub truth : Bool → ℤ
 truth false = pos 0
 truth true = pos 1
 
--- the verdict of a post, and whether a reanalysis passed; any other answer, a refusal too, stands as −1, which is neither
+-- the verdict of a post; 1 for a reanalysis that passed, 0 for one that failed. Any other answer, also a refusal, becomes −1
 abbrev pub verdictNumber : machine.Answer → ℤ
 verdictNumber (machine.judged w v) = pos v
 verdictNumber (machine.reanalysed w passed) = truth passed
@@ -46,7 +46,7 @@ verdictNumber machine.corrected = negsuc 0
 verdictNumber (machine.renewed rounds removed) = negsuc 0
 verdictNumber (machine.refused n) = negsuc 0
 
--- .. of each of the calls, the first of which takes the chart from building; of a refused building, none
+-- these numbers for each call of a list. The first call takes the chart from building. A refused building gives no numbers
 abbrev pub verdictsOf : build.BuildingAnswer → List machine.Call → List ℤ
 verdictsOf (build.built s rounds removed) calls = map verdictNumber (machine.answers s calls)
 verdictsOf (build.refused n) calls = []
@@ -66,7 +66,7 @@ baseA = replicate 7 (pos 9900) ++ (replicate 7 (pos 10100) ++ (pos 10000 ∷ [])
 abbrev pub limitsA : Limits
 limitsA = limitsOf 2 baseA
 
--- "Base C: 10000 seven times, 10001 eight times." Its five lines are those of a kind with lower limits, as kind 2
+-- "Base C: 10000 seven times, 10001 eight times." The course gives five lines for it, so its kind has lower limits: the table takes kind 2
 abbrev pub baseC : List ℤ
 baseC = replicate 7 (pos 10000) ++ replicate 8 (pos 10001)
 
@@ -74,13 +74,13 @@ baseC = replicate 7 (pos 10000) ++ replicate 8 (pos 10001)
 abbrev pub fourteenAndOne : List ℤ
 fourteenAndOne = replicate 14 (pos 1000) ++ (pos 2000 ∷ [])
 
--- a limit that is a whole number is the last word not beyond it: a test at the word on the limit, and at the next word outwards
+-- a test of the word on a limit, and of the next word outwards. If a limit is a whole number, it is the last word not beyond it
 abbrev pub edge : (ℤ → Bool) → ℤ → ℤ → List ℤ
 edge test on outside = truth (test on) ∷ truth (test outside) ∷ []
 
 -- ---- calls
 
--- a post of kind 2 whose word is w: found w, made up 10000; a reanalysis of the same
+-- a post of kind 2 whose word is w, and such a reanalysis: found w, made up 10000
 abbrev pub checkPost : ℕ → machine.Call
 checkPost w = machine.post 2 (pos w) (pos 10000) (pos 0)
 
@@ -95,7 +95,7 @@ duplicatePost w = machine.post 1 (pos (20000 + w)) (pos (20000 - w)) (pos 0)
 abbrev pub verdictsOnA : List machine.Call → List ℤ
 verdictsOnA calls = verdictsOf (build.building 2 baseA) calls
 
--- seven words in tens, from w on
+-- seven words from w on, in steps of ten
 abbrev pub sevenInTens : ℕ → List ℕ
 sevenInTens w = w ∷ (w + 10) ∷ (w + 20) ∷ (w + 30) ∷ (w + 40) ∷ (w + 50) ∷ (w + 60) ∷ []
 
@@ -107,8 +107,8 @@ table =
     ∷ record { defined = wordNumbers (word.wordAlone 3 (pos 0) (pos 1) (pos 32)); figure = negsuc 312 ∷ [] }
     -- "A: mean 10000, S 100": T is n·10000, and V is n(n − 1)·100²
     ∷ record { defined = sumsNumbers (sumsOf baseA); figure = pos 15 ∷ pos (15 * 10000) ∷ pos (15 * 14 * 100 * 100) ∷ [] }
-    -- "limits 9700, 9800, 10200, 10300": the lower and the upper control limit, the lower and the upper warning limit; then a control and a
-    -- warning limit by their own names
+    -- "limits 9700, 9800, 10200, 10300": the lower and the upper control limit, the lower and the upper warning limit. Then `beyondControl`
+    -- and `beyondWarning` at one limit each
     ∷ record { defined = edge (beyondLower controlMultiple limitsA) (pos 9700) (pos 9699); figure = pos 0 ∷ pos 1 ∷ [] }
     ∷ record { defined = edge (beyondUpper controlMultiple limitsA) (pos 10300) (pos 10301); figure = pos 0 ∷ pos 1 ∷ [] }
     ∷ record { defined = edge (beyondLower warningMultiple limitsA) (pos 9800) (pos 9799); figure = pos 0 ∷ pos 1 ∷ [] }
@@ -120,7 +120,7 @@ table =
     -- "2000 removed, two rounds, one removed, base of 14, S = 0"
     ∷ record { defined = buildNumbers (build.building 1 fourteenAndOne); figure = pos 2 ∷ pos 1 ∷ replicate 14 (pos 1000) }
     ∷ record { defined = sumsNumbers (sumsOf (replicate 14 (pos 1000))); figure = pos 14 ∷ pos (14 * 1000) ∷ pos 0 ∷ [] }
-    -- with S = 0 the limit is the mean: 1001, which "Post 1001: 1" is about, is beyond it and 1000 is not
+    -- with S = 0 the limit is the mean. 1000 is not beyond it. 1001, the word of "Post 1001: 1", is beyond it
     ∷ record { defined = edge (beyondControl (limitsOf 1 (replicate 14 (pos 1000)))) (pos 1000) (pos 1001); figure = pos 0 ∷ pos 1 ∷ [] }
     -- "Post 1001: 1."
     ∷ record { defined = verdictsOf (build.building 1 fourteenAndOne) (duplicatePost 1001 ∷ []); figure = pos 1 ∷ [] }
@@ -138,7 +138,7 @@ table =
     -- "A, posts 10010, 10020, .., 10070: the seventh is 3, though 4 applies too."
     ∷ record { defined = verdictsOnA (map checkPost (sevenInTens 10010)); figure = replicate 6 (pos 0) ++ (pos 3 ∷ []) }
     ∷ record { defined = truth (sideTest limitsA (map pos (sevenInTens 10010))) ∷ []; figure = pos 1 ∷ [] }
-    -- "C: lines times 256 are 2559740, 2559873, 2560136, 2560400, 2560533." All of its words stand
+    -- "C: lines times 256 are 2559740, 2559873, 2560136, 2560400, 2560533." Rejection removes none of its words
     ∷ record { defined = buildNumbers (build.building 2 baseC); figure = pos 1 ∷ pos 0 ∷ baseC }
     ∷ record {
       defined = linesNumbers (linesOf (limitsOf 2 baseC));

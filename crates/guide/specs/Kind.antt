@@ -1,6 +1,6 @@
--- What a chart kind decides. A kind is a number: 1 duplicate, 2 check, 3 spike. Each definition states by itself one thing that the kind
--- decides. They are total: a number that is no kind is treated as kind 3, and by `hasLower` and `judgesSide` as kind 1, but the
--- paper's calls decline it before they ask.
+-- What a chart kind decides. A kind is a number: 1 duplicate, 2 check, 3 spike. Each definition states one thing that the kind decides. The
+-- definitions are total. They treat a number that is no kind as kind 3; only `hasLower` and `judgesSide` treat it as kind 1. Every call of
+-- the paper refuses such a number.
 use mathlib.Core.Bool.{Bool, _&&_, _||_}
 use Prim.Native.Nat.{ℕ}
 use lib.Dec.{leb, eqb}
@@ -34,6 +34,6 @@ inRange kind w = leZ (wordLeast kind) w && leZ w (pos wordMost)
 unfoldable pub hasLower : ℕ → Bool
 hasLower kind = eqb kind 2 || eqb kind 3
 
--- verdict 4: "kinds 2 and 3 only", the kinds of which words on one side of the mean are judged
+-- verdict 4, for words on one side of the mean: "kinds 2 and 3 only"
 unfoldable pub judgesSide : ℕ → Bool
 judgesSide kind = eqb kind 2 || eqb kind 3

@@ -1,6 +1,6 @@
--- Document 01, "Base, limits, rejection": the sums of some words, and a word against the limits that these give. A limit is the mean
--- plus or minus a multiple m of S, for any m. S is a square root, so a word is compared with a limit "by squares of whole
--- numbers", with the sign of its deviation.
+-- Document 01, "Base, limits, rejection": the sums of some words, and the comparison of a word with the limits that they give. A limit is
+-- the mean plus or minus a multiple m of S, for any m. S is a square root. So a word is compared with a limit "by squares of whole
+-- numbers", and by the sign of its deviation from the mean.
 use mathlib.Core.Bool.{Bool, _&&_, _||_}
 use mathlib.Core.List.{List, [], _∷_, map}
 use Prim.Native.Nat.{ℕ, _+_, _*_, _-_}
@@ -34,28 +34,28 @@ vOf s = pos (s .n) *ℤ s .q -ℤ s .t *ℤ s .t
 unfoldable pub scaledDeviation : Sums → ℤ → ℤ
 scaledDeviation s w = pos (s .n) *ℤ w -ℤ s .t
 
--- "S² = V / (n(n − 1))": a deviation of d / n is more than m·S, up or down, where (d / n)² > m²·S², that is d²·(n − 1) > m²·n·V.
--- By the sums of no word or of one word, where there is no S, nothing exceeds
+-- "S² = V / (n(n − 1))": a deviation of d / n, up or down, is more than m·S if (d / n)² > m²·S², that is if d²·(n − 1) > m²·n·V. Without
+-- words, or with one word, there is no S, and no deviation exceeds
 unfoldable pub exceeds : ℕ → Sums → ℤ → Bool
 exceeds m s d = ltZ (pos (m * m * s .n) *ℤ vOf s) (d *ℤ d *ℤ pos (s .n - 1))
 
--- a deviation of d / n is less than m·S, up or down. At just m·S a deviation neither exceeds nor is within; by the sums of no word or of
--- one word none does either
+-- a deviation of d / n, up or down, is less than m·S. A deviation of exactly m·S neither exceeds nor is within. Without words, or with one
+-- word, no deviation is within
 unfoldable pub within : ℕ → Sums → ℤ → Bool
 within m s d = ltZ (d *ℤ d *ℤ pos (s .n - 1)) (pos (m * m * s .n) *ℤ vOf s)
 
--- w is strictly above the mean; strictly below it
+-- `aboveMean`: w is strictly above the mean. `belowMean`: w is strictly below it
 unfoldable pub aboveMean : Sums → ℤ → Bool
 aboveMean s w = ltZ (pos 0) (scaledDeviation s w)
 
 unfoldable pub belowMean : Sums → ℤ → Bool
 belowMean s w = ltZ (scaledDeviation s w) (pos 0)
 
--- "|word − mean| < S", on either side whatever the kind
+-- "|word − mean| < S", on both sides of the mean, for every kind
 unfoldable pub nearMean : Sums → ℤ → Bool
 nearMean s w = within 1 s (scaledDeviation s w)
 
--- w is above the mean + m·S; below the mean − m·S. "A word is beyond a limit if strictly outside it."
+-- `above`: w is above the mean + m·S. `below`: w is below the mean − m·S. "A word is beyond a limit if strictly outside it."
 unfoldable pub above : ℕ → Sums → ℤ → Bool
 above m s w = aboveMean s w && exceeds m s (scaledDeviation s w)
 
@@ -70,8 +70,9 @@ pub record Limits : Type 0 where
 unfoldable pub limitsOf : ℕ → List ℤ → Limits
 limitsOf kind words = record { kind = kind; sums = sumsOf words }
 
--- beyond the upper limit at the multiple m; beyond the lower one, which kind 1 has not; beyond one of them. (The "lower control line"
--- of kind 1, 0, is a line only and judges nothing: its words are never below 0.)
+-- `beyondUpper`: w is beyond the upper limit at the multiple m. `beyondLower`: w is beyond the lower limit, which kind 1 does not have.
+-- `beyond`: w is beyond one of them. The "lower control line" of kind 1 is a line only. It judges nothing, because no kind 1 word lies
+-- below 0
 unfoldable pub beyondUpper : ℕ → Limits → ℤ → Bool
 beyondUpper m limits w = above m (limits .sums) w
 
@@ -94,20 +95,20 @@ beyondControl limits w = beyond controlMultiple limits w
 unfoldable pub beyondWarning : Limits → ℤ → Bool
 beyondWarning limits w = beyond warningMultiple limits w
 
--- beyond the warning limit on one side
+-- beyond the warning limit on one side, the upper or the lower
 unfoldable pub beyondUpperWarning : Limits → ℤ → Bool
 beyondUpperWarning limits w = beyondUpper warningMultiple limits w
 
 unfoldable pub beyondLowerWarning : Limits → ℤ → Bool
 beyondLowerWarning limits w = beyondLower warningMultiple limits w
 
--- ---- what the laws of limits and the functions that sum say
+-- ---- terms of the laws of limits and of the functions that form sums
 
--- the sums of one word more
+-- the sums after one more word
 abbrev pub withWord : Sums → ℤ → Sums
 withWord s w = record { n = s .n + 1; t = s .t +ℤ w; q = s .q +ℤ w *ℤ w }
 
--- the sum of f over some words
+-- the sum of f over the words
 unfoldable pub sumBy : (ℤ → ℕ) → List ℤ → ℕ
 sumBy f [] = 0
 sumBy f (w ∷ ws) = f w + sumBy f ws

@@ -1,5 +1,5 @@
--- Document 01, "Lines for the plotter": lines by their whole numbers k of 256ths. A limit's line is worked out for any multiple m of S.
--- `proofs/Lines` has that each is what the paper asks for, for the sums of two words or more.
+-- Document 01, "Lines for the plotter": lines as whole numbers k of 256ths. The line of a limit is defined for any multiple m of S.
+-- `proofs/Lines` proves that each line is what the paper asks for, for the sums of two words or more.
 use mathlib.Core.Path.{_≡_}
 use mathlib.Core.Bool.{Bool, true, false, _&&_}
 use Prim.Native.Nat.{ℕ, _*_, _-_, _/_}
@@ -19,7 +19,7 @@ partsDeviation s k = pos (s .n) *ℤ k -ℤ pos lineParts *ℤ s .t
 unfoldable pub partsAboveMean : Sums → ℤ → Bool
 partsAboveMean s k = ltZ (pos 0) (partsDeviation s k)
 
--- k is above 256·(the mean + m·S); below 256·(the mean − m·S). 256 times m·S is (256·m)·S
+-- `partsAbove`: k is above 256·(the mean + m·S). `partsBelow`: k is below 256·(the mean − m·S). 256 times m·S is (256·m)·S
 unfoldable pub partsAbove : ℕ → Sums → ℤ → Bool
 partsAbove m s k = partsAboveMean s k && exceeds (lineParts * m) s (partsDeviation s k)
 
@@ -28,7 +28,7 @@ partsBelow m s k = ltZ (partsDeviation s k) (pos 0) && exceeds (lineParts * m) s
 
 -- ---- what the paper asks of a line
 
--- the greatest whole number that does not pass a test; the least
+-- k is the greatest whole number that does not pass a test. `IsLeastNot`: k is the least
 pub record IsGreatestNot (test : ℤ → Bool) (k : ℤ) : Type 0 where
   pub is-not : test k ≡ false
   pub greatest : (j : ℤ) → test j ≡ false → leZ j k ≡ true
@@ -63,8 +63,8 @@ quotientUp z n = negℤ (quotientDown (negℤ z) n)
 unfoldable pub greatestDeviation : ℕ → Sums → ℕ
 greatestDeviation m s = squareRoot (m * m * (s .n * natAbs (vOf s)) / (s .n - 1))
 
--- with d the greatest whole number for which d / n is not more than (256·m)·S: the greatest k for which n·k is at most 256·T + d, and
--- the least k for which n·k is at least 256·T − d
+-- let d be the greatest whole number for which d / n is not more than (256·m)·S. The upper line is the greatest k for which n·k is at most
+-- 256·T + d. The lower line is the least k for which n·k is at least 256·T − d
 unfoldable pub upperLine : ℕ → Sums → ℤ
 upperLine m s = quotientDown (pos lineParts *ℤ s .t +ℤ pos (greatestDeviation (lineParts * m) s)) (s .n)
 

@@ -1,5 +1,5 @@
--- Document 01, "Lists": where the machine starts. From here `Machine.after` gives the state after a list of calls, and `Machine.answers`
--- what they answer.
+-- Document 01, "Lists": the start of the machine. From it `Machine.after` gives the state after a list of calls, and `Machine.answers`
+-- gives the answers to the calls.
 use mathlib.Core.List.{List}
 use Prim.Native.Nat.{ℕ}
 use lib.IntN.{ℤ}
@@ -7,7 +7,7 @@ use Rattle.guide.specs.State.{State}
 use Rattle.guide.specs.Building as build
 use Rattle.guide.specs.Reading as read
 
--- a start that building or reading accepted, or the number by which it was declined
+-- the start that building or reading gives, or the number of the refusal
 pub data Start : Type 0 where
   begun : State → Start
   declined : ℕ → Start
@@ -23,7 +23,7 @@ unfoldable pub startOfReading : read.ReadingAnswer → Start
 startOfReading (read.taken s) = begun s
 startOfReading (read.refused n) = declined n
 
--- the start from words of a kind, and from bytes
+-- the start from a kind and words, and the start from bytes
 abbrev pub wordsStart : ℕ → List ℤ → Start
 wordsStart kind words = startOfBuilding (build.building kind words)
 

@@ -1,6 +1,6 @@
--- Document 01, "The machine" and "Lists": the calls, what they answer, one step, and a run over a list of calls from an accepted start
--- (`Lists` has the starts after building and reading). Refusal 14 is not the machine's: it is decided of the chart that is handed in
--- (`chart/specs/Calls`). From a sound start every state of a run is sound (`proofs/Machine`), so 14 never applies to a chart along it.
+-- Document 01, "The machine" and "Lists": the calls, their answers, one step, and a run over a list of calls from an accepted start.
+-- `Lists` defines the starts after building and reading. The machine never answers 14: that refusal is about the program's chart
+-- (`chart/specs/Calls`). From a sound start every state of a run is sound (`proofs/Machine`), so 14 never applies to a chart of the run.
 use mathlib.Core.Bool.{Bool}
 use mathlib.Core.List.{List, [], _∷_, _++_}
 use Prim.Native.Nat.{ℕ, zero, suc, _+_}
@@ -41,7 +41,7 @@ pub record Next : Type 0 where
 abbrev pub declined : State → ℕ → Next
 declined s n = record { state = s; answer = refused n }
 
--- ---- what a call is declined for before what it brings is looked at: the first number that applies, or 0
+-- ---- refusals that the state alone decides, before the call's reading: the first number that applies, or 0 if none does
 
 -- 8 "post or renewal, status not 0", 9 "post, 366 words in the series"
 unfoldable pub postRefusal : State → ℕ
@@ -66,13 +66,13 @@ refusalFor s (reanalysis kind a b c) = reanalysisRefusal s
 refusalFor s correction = correctionRefusal s
 refusalFor s renewal = renewalRefusal s
 
--- ---- what a call does that is not declined for these
+-- ---- what a call does if none of these applies
 
 -- the word of a reading: 4 "reading of another kind than the chart", then 5, 6, 7
 unfoldable pub wordFor : ℕ → ℕ → ℤ → ℤ → ℤ → word.Formed
 wordFor chartKind kind a b c = require (eqb kind chartKind) (word.refused 4) (word.fromReading kind a b c)
 
--- what follows if a word is formed
+-- the next state and answer for the word formed, or the refusal if none is formed
 abbrev pub ifFormed : State → word.Formed → (ℤ → Next) → Next
 ifFormed s (word.formed w) next = next w
 ifFormed s (word.refused n) next = declined s n

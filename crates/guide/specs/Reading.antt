@@ -1,5 +1,6 @@
--- Document 01, "Stored form": what reading bytes gives. They are looked at record by record, and each record's length says where it ends.
--- `proofs/Reading` has that bytes which are read are the stored form of the state that they give, and that a sound state's form gives it.
+-- Document 01, "Stored form": what reading bytes gives. Reading goes record by record, and the length of a record says where it ends.
+-- `proofs/Reading` proves that accepted bytes are the stored form of the state that they give, and that the stored form of a sound state
+-- gives that state.
 use mathlib.Core.Bool.{Bool, _&&_}
 use mathlib.Core.List.{List, map}
 use Prim.Native.Nat.{ℕ, _+_, _-_, _/_, _%_}
@@ -21,7 +22,7 @@ lengthIn bytes = numberIn bytes
 unfoldable pub recordKindIn : List ℕ → ℕ
 recordKindIn bytes = numberIn (drop 2 bytes)
 
--- how many numbers follow the record kind: of the bytes after the length, two are the record kind's, and each number has two
+-- how many numbers follow the record kind. Of the bytes after the length, the record kind has two, and each number has two
 unfoldable pub countIn : List ℕ → ℕ
 countIn bytes = (lengthIn bytes - 2) / 2
 
@@ -32,11 +33,11 @@ recordNumbers bytes = numbersIn (countIn bytes) (drop 4 bytes)
 unfoldable pub afterRecord : List ℕ → List ℕ
 afterRecord bytes = drop (2 + lengthIn bytes) bytes
 
--- there is a record: its length is that of a record kind and of numbers in two bytes each, and as many bytes are there
+-- the bytes start with a record. Its length counts a record kind and numbers of two bytes each, and all its bytes are there
 unfoldable pub isRecord : List ℕ → Bool
 isRecord bytes = (leb 2 (lengthIn bytes) && eqb (lengthIn bytes % 2) 0) && leb (2 + lengthIn bytes) (length bytes)
 
--- .. of this record kind, and its numbers are at least `least` and at most `most`
+-- the bytes start with a record of this record kind, and its count of numbers is at least `least` and at most `most`
 unfoldable pub startsWith : (recordKind least most : ℕ) → List ℕ → Bool
 startsWith recordKind least most bytes =
     isRecord bytes
@@ -52,7 +53,7 @@ fromBase bytes = afterRecord bytes
 unfoldable pub fromSeries : List ℕ → List ℕ
 fromSeries bytes = afterRecord (fromBase bytes)
 
--- the first record's numbers: "length 8" is a record kind and three
+-- how many numbers the first record has: "length 8" is a record kind and three numbers
 abbrev pub headCount : ℕ
 headCount = 3
 
@@ -75,8 +76,8 @@ heldIn bytes =
 
 -- ---- reading
 
--- the state, which is the machine's "start after reading", or the number for what is declined. The "chart of zeros" that goes with a
--- refusal is a value of the program's type: `chart/specs/Chart` has it
+-- the state, which is the machine's "start after reading", or the number of the refusal. The "chart of zeros" of a refused read is a value
+-- of the program's type: `chart/specs/Chart` defines it
 pub data ReadingAnswer : Type 0 where
   taken : State → ReadingAnswer
   refused : ℕ → ReadingAnswer

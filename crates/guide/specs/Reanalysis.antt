@@ -1,4 +1,4 @@
--- Document 01, "Reanalysis": whether a word passes for the last word of a series, by the verdict that is open.
+-- Document 01, "Reanalysis": whether a word passes in place of the last word of a series, by the open verdict.
 use mathlib.Core.Bool.{Bool, true, _&&_, _||_, not}
 use mathlib.Core.List.{List}
 use Prim.Native.Nat.{ℕ}
@@ -20,7 +20,7 @@ unfoldable pub onRunsSide : Limits → List ℤ → ℤ → Bool
 onRunsSide limits series w =
     (runAbove limits series && aboveMean (limits .sums) w) || (runBelow limits series && belowMean (limits .sums) w)
 
--- what is asked for verdict 2: "not beyond a warning limit", on whichever side
+-- for verdict 2: "not beyond a warning limit", on either side
 unfoldable pub passesWarning : Limits → ℤ → Bool
 passesWarning limits w = not (beyondWarning limits w)
 
@@ -32,8 +32,8 @@ passesTrend limits series w = nearMean (limits .sums) w || turnsBack series w
 unfoldable pub passesSide : Limits → List ℤ → ℤ → Bool
 passesSide limits series w = nearMean (limits .sums) w || not (onRunsSide limits series w)
 
--- what the open verdict asks beside the control limits. Verdict 1 asks nothing more; nor does 0 or a number
--- above 4, neither of which goes with status 1 in a sound chart
+-- what the open verdict asks besides the control limits. Verdict 1 asks nothing more. Neither does 0 or a number above 4, but in a sound
+-- chart these do not go with status 1
 unfoldable pub passesVerdict : Limits → ℕ → List ℤ → ℤ → Bool
 passesVerdict limits openVerdict series w =
     choose (eqb openVerdict 2) (passesWarning limits w)
@@ -41,7 +41,7 @@ passesVerdict limits openVerdict series w =
     (choose (eqb openVerdict 4) (passesSide limits series w)
     true))
 
--- Reanalysis "passes if its word is not beyond a control limit and", by verdict, the rest. The series is the one that stands, and its last
--- word is the one that the reanalysis would replace
+-- Reanalysis "passes if its word is not beyond a control limit and", by verdict, the rest. The series is the one before the reanalysis. Its
+-- last word is the one that the reanalysis would replace
 unfoldable pub passes : Limits → ℕ → List ℤ → ℤ → Bool
 passes limits openVerdict series w = not (beyondControl limits w) && passesVerdict limits openVerdict series w

@@ -1,4 +1,5 @@
--- Document 01, "Base, limits, rejection": rounds of rejection, what they leave, and how many rounds and words they take.
+-- Document 01, "Base, limits, rejection": rejection in rounds. The words that it leaves, the number of rounds, and the number of words
+-- removed.
 use mathlib.Core.Bool.{Bool}
 use mathlib.Core.List.{List, [], _∷_}
 use Prim.Native.Nat.{ℕ, zero, suc, _+_, _-_}
@@ -27,13 +28,13 @@ pub record RejectionAnswer : Type 0 where
 abbrev pub lastRound : List ℤ → RejectionAnswer
 lastRound words = record { base = words; rounds = 1; removed = 0 }
 
--- a round that removes a number of words, before the rounds that r tells of
+-- a round that removes `number` words, followed by the rounds of r
 abbrev pub oneMoreRound : ℕ → RejectionAnswer → RejectionAnswer
 oneMoreRound number r = record { base = r .base; rounds = r .rounds + 1; removed = r .removed + number }
 
 -- "and the limits worked out anew from the rest": rejection "calls itself on the words left, whose number falls". So one round more than
--- there are words is enough, and from `rejection` the first clause is never reached. `proofs/Rejection` has the two equations that a
--- reader expects, `rejection-ends` and `rejection-goes-on`
+-- there are words is enough, and `rejection` never reaches the first clause. `proofs/Rejection` proves the two equations that a reader
+-- expects, `rejection-ends` and `rejection-goes-on`
 unfoldable pub rejectionWithin : ℕ → ℕ → List ℤ → RejectionAnswer
 rejectionWithin zero kind words = lastRound words
 rejectionWithin (suc allowed) kind words =
@@ -44,9 +45,9 @@ rejectionWithin (suc allowed) kind words =
 unfoldable pub rejection : ℕ → List ℤ → RejectionAnswer
 rejection kind words = rejectionWithin (suc (length words)) kind words
 
--- ---- what the laws of rejection say
+-- ---- a term of the laws of rejection
 
--- some of the words, in their old order
+-- the first list has some of the words of the second, in their old order
 pub data InOrder : List ℤ → List ℤ → Type 0 where
   none : InOrder [] []
   kept : {w : ℤ} {some words : List ℤ} → InOrder some words → InOrder (w ∷ some) (w ∷ words)

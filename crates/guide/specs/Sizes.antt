@@ -1,4 +1,4 @@
--- The numbers that are constants of the chart's type in the code: "The limits 15, 32, 366 and 256", and 10 beside them.
+-- The numbers that are constants of the chart's type in the code: "The limits 15, 32, 366 and 256", and also 10.
 use Prim.Native.Nat.{ℕ}
 
 -- "Building takes a chart kind and 15..32 words", and renewal "the last 15 words"

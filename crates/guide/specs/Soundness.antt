@@ -1,5 +1,5 @@
--- Document 01, "Stored form": when a chart is sound. That "unused places hold 0" is said of the program's chart, in
--- `chart/specs/Soundness`.
+-- Document 01, "Stored form": when a chart is sound. The condition "unused places hold 0" is about the program's chart:
+-- `chart/specs/Soundness` states it.
 use mathlib.Core.Bool.{Bool, _&&_}
 use mathlib.Core.List.{List}
 use Prim.Native.Nat.{ℕ}
@@ -25,7 +25,7 @@ unfoldable pub wordsSound : ℕ → List ℤ → List ℤ → Bool
 wordsSound kind base series =
     isKind kind && (areCounts (length base) (length series) && (allInRange kind base && allInRange kind series))
 
--- the series words of which none may be beyond a control limit: all, "save the last while status is not 0"
+-- the words of the series that must not be beyond a control limit: all, "save the last while status is not 0"
 unfoldable pub heldWithin : ℕ → List ℤ → List ℤ
 heldWithin status series = choose (eqb status 0) series (butLast series)
 
@@ -42,7 +42,7 @@ openFits limits series status openVerdict =
     && ((leb 1 openVerdict && leb openVerdict 4)
     && eqb openVerdict (verdict limits series)))
 
--- "status 0 goes with verdict 0", status 1 or 2 as above, and no other status is sound
+-- "status 0 goes with verdict 0", and status 1 or 2 goes with an open verdict as above. No other status is sound
 unfoldable pub statusFits : Limits → List ℤ → ℕ → ℕ → Bool
 statusFits limits series status openVerdict = choose (eqb status 0) (eqb openVerdict 0) (openFits limits series status openVerdict)
 

@@ -23,7 +23,7 @@ state kind base series status openVerdict =
 unfoldable pub fresh : ℕ → List ℤ → State
 fresh kind base = state kind base [] 0 0
 
--- what a chart's words are judged by, beside the series
+-- the limits from the kind and the base. Judging uses these and the series
 unfoldable pub limitsFor : State → Limits
 limitsFor s = limitsOf (s .kind) (s .base)
 
@@ -31,10 +31,10 @@ limitsFor s = limitsOf (s .kind) (s .base)
 unfoldable pub addWord : State → ℤ → State
 addWord s w = state (s .kind) (s .base) (s .series ++ (w ∷ [])) (s .status) (s .openVerdict)
 
--- .. with a word in the place of the series' last
+-- the same state with a word in place of the last word of the series
 unfoldable pub replaceLast : State → ℤ → State
 replaceLast s w = state (s .kind) (s .base) (butLast (s .series) ++ (w ∷ [])) (s .status) (s .openVerdict)
 
--- .. with this status and this open verdict
+-- the same state with this status and this open verdict
 unfoldable pub setStatus : State → ℕ → ℕ → State
 setStatus s status openVerdict = state (s .kind) (s .base) (s .series) status openVerdict

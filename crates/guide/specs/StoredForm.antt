@@ -1,5 +1,5 @@
--- Document 01, "Stored form": the bytes of a state, and what writing them into a buffer gives. Of a sound state every number is below
--- 65536, so what is given are bytes.
+-- Document 01, "Stored form": the bytes of a state, and what writing them into a buffer gives. In a sound state every number is below
+-- 65536, so every number of its form is a byte.
 use mathlib.Core.Bool.{Bool}
 use mathlib.Core.List.{List, [], _∷_, _++_, map}
 use Prim.Native.Nat.{ℕ}
@@ -26,7 +26,7 @@ storedForm s =
     ++ (recordOf 2 (map numberOf (s .base))
     ++ recordOf 3 (map numberOf (s .series)))
 
--- ---- writing, of a chart that is sound: 14 comes before, and is decided of the chart that is handed in (`store/specs/Store`)
+-- ---- writing the form of a sound chart. Refusal 14 comes first, and is about the program's chart (`store/specs/Store`)
 
 -- "Writing answers the number of bytes"
 pub data WritingAnswer : Type 0 where
@@ -41,6 +41,6 @@ hasRoom s buffer = leb (length (storedForm s)) (length buffer)
 unfoldable pub writing : State → List ℕ → WritingAnswer
 writing s buffer = require (hasRoom s buffer) (refused 15) (wrote (length (storedForm s)))
 
--- the buffer then: the form at its front, and "those after the form untouched"; a refusal leaves all as it was
+-- the buffer after writing: the form at its front, and "those after the form untouched". A refusal changes no byte
 unfoldable pub bufferAfter : State → List ℕ → List ℕ
 bufferAfter s buffer = require (hasRoom s buffer) buffer (storedForm s ++ drop (length (storedForm s)) buffer)

@@ -1,4 +1,4 @@
--- Document 01, "Post": the verdict on the last word of a series, by the limits and the series alone.
+-- Document 01, "Post": the verdict on the last word of a series. It depends on the limits and the series alone.
 use mathlib.Core.Bool.{Bool, true, _&&_, _||_}
 use mathlib.Core.List.{List, [], _∷_}
 use Prim.Native.Nat.{ℕ}
@@ -12,7 +12,7 @@ use Rattle.guide.specs.Kind.{judgesSide}
 use Rattle.guide.specs.Limits.{Limits, aboveMean, belowMean, beyondControl, beyondUpperWarning, beyondLowerWarning}
 use Rattle.guide.specs.LastWords.{lastWords, lastWord, oneBeforeLast}
 
--- each word and the next stand in the order
+-- the order holds from each word to the next
 unfoldable pub eachNext : (ℤ → ℤ → Bool) → List ℤ → Bool
 eachNext order [] = true
 eachNext order (w ∷ []) = true
@@ -31,7 +31,7 @@ falls w next = ltZ next w
 abbrev pub runLength : ℕ
 runLength = 7
 
--- the words of the run are so
+-- the series has at least seven words, and the last seven pass the test `so`
 unfoldable pub isRun : (List ℤ → Bool) → List ℤ → Bool
 isRun so series = leb runLength (length series) && so (lastWords runLength series)
 
@@ -47,7 +47,7 @@ runAbove limits series = isRun (allOf (aboveMean (limits .sums))) series
 unfoldable pub runBelow : Limits → List ℤ → Bool
 runBelow limits series = isRun (allOf (belowMean (limits .sums))) series
 
--- ---- the four tests, of a series whose last word is the one that is judged
+-- ---- the four tests of the last word of a series
 
 -- 1: "beyond a control limit"
 unfoldable pub controlTest : Limits → List ℤ → Bool
@@ -70,12 +70,12 @@ sideTest limits series = judgesSide (limits .kind) && (runAbove limits series ||
 
 -- ---- the verdict
 
--- of tests in order, each with its verdict, the verdict of the first that holds; 0 where none does
+-- the verdict of the first test that holds, or 0 if none does. Each test stands with its verdict
 unfoldable pub firstVerdict : List (Bool × ℕ) → ℕ
 firstVerdict [] = 0
 firstVerdict (test ∷ tests) = choose (test .0) (test .1) (firstVerdict tests)
 
--- "the lowest that applies", and 0 for "none of these". "Judging uses chart kind, base and series only": the limits hold what it takes of
+-- "the lowest that applies", and 0 for "none of these". "Judging uses chart kind, base and series only": the limits hold what it uses of
 -- kind and base
 unfoldable pub verdict : Limits → List ℤ → ℕ
 verdict limits series =

@@ -31,8 +31,9 @@ numerator kind a b c =
 unfoldable pub divisor : ℕ → ℤ → ℤ → ℤ → ℤ
 divisor kind a b c = byKind kind (a +ℤ b) b c
 
--- "The quotient goes to the nearest whole number, halves away from zero": n / d of a natural number n; of a negative one by its
--- absolute value. For d above 0 `proofs/Word` shows that it is the nearest (`nearest-is`), and that no other number is (`nearest-only`)
+-- "The quotient goes to the nearest whole number, halves away from zero": `nearestNatural` rounds n / d for a natural number n, and
+-- `nearest` rounds a negative number by its absolute value. For d above 0 `proofs/Word` proves that the result is the nearest
+-- (`nearest-is`), and that no other number is (`nearest-only`)
 unfoldable pub nearestNatural : ℕ → ℕ → ℕ
 nearestNatural n d = (2 * n + d) / (2 * d)
 
@@ -40,22 +41,22 @@ unfoldable pub nearest : ℤ → ℕ → ℤ
 nearest (pos n) d = pos (nearestNatural n d)
 nearest (negsuc n) d = negℤ (pos (nearestNatural (suc n) d))
 
--- what the laws of rounding say: d·r is within d / 2 of z, and where it is just d / 2 away it is the one farther from zero
+-- r is z / d rounded: d·r is at most d / 2 away from z. If it is exactly d / 2 away, it is farther from zero than z
 pub record IsNearest (z : ℤ) (d : ℕ) (r : ℤ) : Type 0 where
   pub close : 2 * natAbs (pos d *ℤ r -ℤ z) ≤ d
   pub away : 2 * natAbs (pos d *ℤ r -ℤ z) ≡ d → natAbs z < d * natAbs r
 
--- the quotient so rounded. Readings are not negative, so the divisor is its own absolute value; a divisor of 0 is declined before
+-- the rounded quotient. Readings are not negative, so the divisor is its own absolute value. A divisor of 0 is refused before
 unfoldable pub roundedQuotient : ℕ → ℤ → ℤ → ℤ → ℤ
 roundedQuotient kind a b c = nearest (numerator kind a b c) (natAbs (divisor kind a b c))
 
--- a word, or the number for what is declined
+-- a word, or the number of the refusal
 pub data Formed : Type 0 where
   formed : ℤ → Formed
   refused : ℕ → Formed
 
--- a word formed from a reading of one of the three kinds: 5 "a reading outside 0..1,000,000,000", 6 "divisor 0", 7 "word out of range".
--- Any other kind is taken for 3 here
+-- a word formed from a reading of one of the three kinds: 5 "a reading outside 0..1,000,000,000", 6 "divisor 0", 7 "word out of range". Any
+-- other kind is treated as kind 3 here
 unfoldable pub fromReading : ℕ → ℤ → ℤ → ℤ → Formed
 fromReading kind a b c =
     require (areReadings kind a b c) (refused 5)

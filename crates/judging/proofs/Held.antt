@@ -1,4 +1,4 @@
--- The series words that have to lie within the control limits: how many they are, and that they are the first of the series.
+-- The words of the series that must not be beyond a control limit: their number, and that they are the first of the series.
 use mathlib.Core.Path.{_≡_, refl, ap, _∙_}
 use mathlib.Core.Bool.{Bool, true, false}
 use mathlib.Core.List.{List}

@@ -1,5 +1,5 @@
--- Laws of judging: a test that asks for so many words, the run of the last seven, a turn and the end of the two loops over a run's words,
--- and the tests that join what is known of two words, or of a run and a word.
+-- Laws of judging: a test that needs a number of words; the run of the last seven; a turn and the end of the two loops over the words of a
+-- run; and tests that join the facts about two words, or about a run and a word.
 use mathlib.Core.Path.{_≡_, sym, ap, _∙_}
 use mathlib.Core.Bool.{Bool, false, _&&_, _||_}
 use mathlib.Core.List.{List}
@@ -25,19 +25,19 @@ use Rattle.judging.specs.declared.verdict.RunSide.{RunSide}
 use Rattle.guide.proofs.AllOf.{all-next, all-none, each-next, each-none}
 use Rattle.guide.proofs.Booleans.{found-more, found-all}
 
--- ---- a test that asks for k words or more: "with fewer, never"
+-- ---- a test that needs k words or more: "with fewer, never"
 
--- of fewer words the test fails
+-- with fewer words the test fails
 pub with-fewer : (k n : ℕ) (test : Bool) → n < k → false ≡ (leb k n && test)
 with-fewer k n test h = rw (lt-leb k n h)
 
--- of enough words it is what the rest of the test says
+-- with enough words the rest of the test decides
 pub with-enough : (k n : ℕ) {answer test : Bool} → k ≤ n → answer ≡ test → answer ≡ (leb k n && test)
 with-enough k n h e = rw (le-leb k n h) e
 
 -- ---- the run of the last seven words
 
--- the part of a series from its seventh last word to its end
+-- the part of a series from its seventh last word on is the last seven words
 last-seven : (series : List ℤ) (start : ℕ) → start + runLength ≡ length series
     → take (length series - start) (drop start series) ≡ lastWords runLength series
 unfolding lastWords
@@ -52,7 +52,7 @@ module _ (so : List ℤ → Bool) (series : List ℤ) where
   unfolding isRun
   no-run h = with-fewer runLength (length series) _ h
 
-  -- what the last seven words show is what the run shows
+  -- a test of the last seven words decides the run
   is-run : {answer : Bool} (start : ℕ) → start + runLength ≡ length series → answer ≡ so (take (length series - start) (drop start series))
       → answer ≡ isRun so series
   unfolding isRun
@@ -91,10 +91,10 @@ module _ (limits : Limits) (series : List ℤ) where
     below = is-run (allOf (belowMean (limits .sums))) series start h (sides .below);
   }
 
--- ---- a loop that joins a test of each word: what it found and what remains, together, is the test of all
+-- ---- a loop that joins a test of each word: what it found and what remains give the test of all words
 
 module _ (test : ℤ → Bool) (words : List ℤ) (i : ℕ) (found : Bool) (inv : (found && allOf test (drop i words)) ≡ allOf test words) where
-  -- one word more
+  -- one more word
   pub test-turn : {answer : Bool} {w : ℤ} → i < length words → w ≡ getD words i (pos 0) → answer ≡ test w
       → ((found && answer) && allOf test (drop (i + 1) words)) ≡ allOf test words
   test-turn {answer} h e f =
@@ -110,7 +110,7 @@ module _ (test : ℤ → Bool) (words : List ℤ) (i : ℕ) (found : Bool) (inv 
 
 module _ (order : ℤ → ℤ → Bool) (words : List ℤ) (i : ℕ) (found : Bool)
     (inv : (found && eachNext order (drop (i - 1) words)) ≡ eachNext order words) where
-  -- one word more
+  -- one more word
   pub order-turn : {before w : ℤ} → 1 ≤ i → i < length words → before ≡ getD words (i - 1) (pos 0) → w ≡ getD words i (pos 0)
       → ((found && order before w) && eachNext order (drop (i + 1 - 1) words)) ≡ eachNext order words
   order-turn {before} {w} l h e f =
@@ -125,7 +125,7 @@ module _ (order : ℤ → ℤ → Bool) (words : List ℤ) (i : ℕ) (found : Bo
 -- ---- two words, and a run and a word
 
 module _ (limits : Limits) (series : List ℤ) where
-  -- one word has none before it, and no verdict 2
+  -- fewer than two words never have verdict 2
   pub no-warning : length series < 2 → false ≡ warningTest limits series
   unfolding warningTest
   no-warning h = with-fewer 2 (length series) _ h

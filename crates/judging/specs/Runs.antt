@@ -1,4 +1,4 @@
--- What the structs of judging say of the words.
+-- What the structs of judging say about words.
 use mathlib.Core.Path.{_≡_}
 use mathlib.Core.List.{List}
 use lib.IntN.{ℤ}
@@ -8,22 +8,22 @@ use Rattle.guide.specs.Verdict.{eachNext, rises, falls, rising, falling, runAbo
 use Rattle.judging.specs.declared.verdict.Trend.{Trend}
 use Rattle.judging.specs.declared.verdict.RunSide.{RunSide}
 
--- all the words rise; all fall
+-- r says whether the words rise strictly, and whether they fall strictly
 pub record AreOrders (words : List ℤ) (r : Trend) : Type 0 where
   pub rising : r .rising ≡ eachNext rises words
   pub falling : r .falling ≡ eachNext falls words
 
--- the last seven do
+-- the same for the last seven words of a series. With fewer than seven, neither
 pub record IsTrend (series : List ℤ) (r : Trend) : Type 0 where
   pub rising : r .rising ≡ rising series
   pub falling : r .falling ≡ falling series
 
--- all the words are above the mean; all are below it
+-- r says whether all words are strictly above the mean, and whether all are strictly below it
 pub record AreSides (limits : Limits) (words : List ℤ) (r : RunSide) : Type 0 where
   pub above : r .above ≡ allOf (aboveMean (limits .sums)) words
   pub below : r .below ≡ allOf (belowMean (limits .sums)) words
 
--- the last seven are
+-- the same for the last seven words of a series. With fewer than seven, neither
 pub record IsRunSide (limits : Limits) (series : List ℤ) (r : RunSide) : Type 0 where
   pub above : r .above ≡ runAbove limits series
   pub below : r .below ≡ runBelow limits series

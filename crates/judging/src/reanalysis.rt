@@ -1,4 +1,4 @@
-// Whether a reanalysis passes, by the verdict that is open: document 01, "Reanalysis".
+// Whether a reanalysis passes, by the open verdict: document 01, "Reanalysis".
 use crate::verdict::run_side;
 use crate::verdict::trend_of;
 use limits::Limits;
@@ -10,7 +10,7 @@ ghost use mathlib.Core.Path.{_≡_};
 ghost use Rattle.guide.specs.Reanalysis as guide;
 ghost use Rattle.limits.specs.Sums.{limitsSay, Bounded};
 
-// The series is the one that stands; its last word is what the reanalysis would replace.
+// The series is the one before the reanalysis. Its last word is the one that the reanalysis would replace.
 pub fn passes(l: Limits, open_verdict: u16, series: &[i16], w: i16) -> bool
     requires { ⌜ Bounded (l .sums) ⌝ }
     ensures { λ r. ⌜ r ≡ guide.passes (limitsSay l) «open_verdict» (now (series .entry)) w ⌝ }
@@ -18,7 +18,7 @@ pub fn passes(l: Limits, open_verdict: u16, series: &[i16], w: i16) -> bool
     !beyond_control(l, w) & passes_verdict(l, open_verdict, series, w)
 }
 
-// What the open verdict asks beside the control limits.
+// What the open verdict asks besides the control limits.
 fn passes_verdict(l: Limits, open_verdict: u16, series: &[i16], w: i16) -> bool
     requires { ⌜ Bounded (l .sums) ⌝ }
     ensures { λ r. ⌜ r ≡ guide.passesVerdict (limitsSay l) «open_verdict» (now (series .entry)) w ⌝ }
@@ -62,7 +62,7 @@ fn turns_back(series: &[i16], w: i16) -> bool
     ensures { λ r. ⌜ r ≡ guide.turnsBack (now (series .entry)) w ⌝ }
 {
     let m = series.len();
-    // One word has none before it, and is no run.
+    // Fewer than two words have no word before the last, and are no run.
     if m < 2 {
         return false;
     }

@@ -1,4 +1,4 @@
-// What soundness asks of the words by the limits, and of the status and the open verdict: document 01, "Stored form".
+// Two conditions of soundness: the words lie within the control limits, and status and open verdict fit. Document 01, "Stored form".
 use crate::verdict::verdict;
 use extremes::extremes_of;
 use limits::Limits;
@@ -21,7 +21,7 @@ pub fn limits_hold(l: Limits, base: &[i16], series: &[i16], status: u16) -> bool
     none_beyond_control(l, base) & none_beyond_control(l, &series[..k])
 }
 
-// How many of the series' m words have to lie within.
+// How many of the m words of the series must not be beyond a control limit.
 fn held_count(m: usize, status: u16) -> usize
     ensures { λ r. ⌜ r ≡ choose (eqb status 0) m (m - 1) ⌝ }
 {
@@ -34,7 +34,7 @@ fn held_count(m: usize, status: u16) -> usize
     m - 1
 }
 
-// A word between two that lie within the limits lies within, so the least and the greatest decide.
+// A word between two words within the limits is within them too. So the least and the greatest word decide.
 fn none_beyond_control(l: Limits, words: &[i16]) -> bool
     requires { ⌜ Bounded (l .sums) ⌝ }
     ensures { λ r. ⌜ r ≡ noneOf (beyondControl (limitsSay l)) (now (words .entry)) ⌝ }
@@ -46,7 +46,7 @@ fn none_beyond_control(l: Limits, words: &[i16]) -> bool
     !beyond_control(l, e.least) & !beyond_control(l, e.greatest)
 }
 
-// The status and the open verdict go together.
+// Status 0 goes with verdict 0. Status 1 or 2 goes with the open verdict 1..4 that the last word of the series has.
 pub fn status_fits(l: Limits, series: &[i16], status: u16, open_verdict: u16) -> bool
     requires { ⌜ Bounded (l .sums) ⌝ }
     ensures { λ r. ⌜ r ≡ statusFits (limitsSay l) (now (series .entry)) status «open_verdict» ⌝ }

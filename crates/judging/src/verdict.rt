@@ -1,6 +1,6 @@
 // The verdict on the last word of a series: document 01, "Post".
 //
-// Judging sees the limits and the words alone. Each of the four tests is a function; `verdict` asks them in the paper's order.
+// Judging uses the limits and the words alone. Each of the four tests is a function, and `verdict` runs them in the paper's order.
 use limits::Limits;
 use limits::beyond_control;
 use limits::beyond_warning;
@@ -11,7 +11,7 @@ ghost use Rattle.guide.specs.Verdict as guide;
 ghost use Rattle.limits.specs.Sums.{limitsSay, Bounded};
 ghost use Rattle.judging.specs.Runs.{AreOrders, AreSides, IsTrend, IsRunSide};
 
-// The words of a run: the turning point and six after it.
+// The number of words in a run: the turning point and six words after it.
 const RUN: usize = 7;
 
 // Whether words rise strictly, and whether they fall strictly.
@@ -106,7 +106,7 @@ fn judges_side(kind: u16) -> bool
     (kind == 2) | (kind == 3)
 }
 
-// The last seven words; with fewer, neither.
+// Whether the last seven words rise or fall strictly. With fewer than seven, neither.
 pub fn trend_of(series: &[i16]) -> Trend
     ensures { λ r. ⌜ IsTrend (now (series .entry)) r ⌝ }
 {
@@ -136,7 +136,7 @@ pub fn run_side(l: Limits, series: &[i16]) -> RunSide
     sides_of(l, &series[start..])
 }
 
-// Does each word stand below the next; does each stand above it?
+// Whether each word is below the next, and whether each word is above the next.
 fn orders_of(words: &[i16]) -> Trend
     ensures { λ r. ⌜ AreOrders (now (words .entry)) r ⌝ }
 {

@@ -18,7 +18,7 @@ use Rattle.limits.specs.Sums.{sumsSay, Bounded, Comparable, AreSquares}
 use Rattle.limits.proofs.Spread.{v-is, v-small}
 use Rattle.limits.proofs.Deviation.{deviation-small}
 
--- the two sides, by the magnitude a of d and by V; with no word both are 0
+-- the two sides, from the magnitude a of d and from V. Without words both are 0
 module _ (m : ℕ) (s : Sums) (d : ℤ) (a v : ℕ) (p : a ≡ natAbs d) (e : pos v ≡ vOf (sumsSay s)) where
   pub squares-are : (x y : ℕ) → x ≡ a * a * (s .n - 1) → y ≡ m * m * (s .n * v)
       → AreSquares m (sumsSay s) d (record { deviation = x; limit = y })
@@ -36,7 +36,7 @@ squares-none m s d b e =
     squares-are m s d (natAbs d) v refl (v-is s b) 0 0
     (omega (arith, ap (λ (x : ℕ). natAbs d * natAbs d * x) one)) (omega (arith, ap (λ (x : ℕ). m * m * (x * v)) e))
 
--- the comparison, of a d that came as the machine holds it
+-- the comparison for a d as the computer holds it
 module _ (m : ℕ) (s : Sums) (d : ℤ) (r : Squares) (h : SFits w64 d) (k : AreSquares m (sumsSay s) (toZ w64 (ofZ w64 d)) r) where
   own : AreSquares m (sumsSay s) d r
   own = rw (toZ-ofZ h) at k
@@ -49,7 +49,7 @@ module _ (m : ℕ) (s : Sums) (d : ℤ) (r : Squares) (h : SFits w64 d) (k : Are
   unfolding within
   within-is = rw (← own .limit, ← own .deviation)
 
--- its products fit
+-- the products of the comparison fit
 module _ (m : ℕ) (s : Sums) (d : ℤ) (k : Comparable m s d) where
   pub limit-fits : (v : ℕ) → pos v ≡ vOf (sumsSay s) → m * m * (s .n * v) < 2 ^ 64
   limit-fits v e = rw (ap natAbs e) (k .limit)
@@ -65,7 +65,7 @@ module _ (m : ℕ) (s : Sums) (d : ℤ) (k : Comparable m s d) where
   pub square-fits : (a x : ℕ) → a ≡ natAbs d → x ≤ baseMost → a * a * x < 2 ^ 64
   square-fits a x e h = omega (arith, mul-le-mul (square-small a e) h)
 
--- a word's deviation, as the machine holds it, can be compared at any multiple of eight bits
+-- the deviation of a word, as the computer holds it, can be compared at any eight-bit multiple m
 pub record HeldDeviation (m : ℕ) (s : Sums) (w r : ℤ) : Type 0 where
   pub is : toZ w64 (ofZ w64 r) ≡ scaledDeviation (sumsSay s) w
   pub comparable : Comparable m s (toZ w64 (ofZ w64 r))

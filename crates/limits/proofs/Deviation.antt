@@ -1,4 +1,4 @@
--- n·w − T and T + w as the machine works them out: each step fits 64 bits, and the result is the number meant.
+-- n·w − T and T + w as the computer works them out: each step fits 64 bits, and the result is the number meant.
 use Prim.Native.Nat.{_≤_, _^_}
 use native.Mathlib.Omega.{arith}
 use native.Mathlib.Nat.{mul-le-mul}
@@ -13,7 +13,7 @@ use Rattle.limits.specs.declared.Sums.{Sums}
 use Rattle.limits.specs.Sums.{sumsSay, Bounded}
 use Rattle.limits.proofs.Spread.{sum-small, sum-fits}
 
--- a word, cast; T; n·w
+-- a word after its casts, T, and n·w, as the computer holds them
 abbrev castWord : ℤ → ℤ
 castWord w = toZ w64 (ofZ w64 (toZ w16 (ofZ w16 w)))
 

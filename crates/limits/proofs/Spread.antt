@@ -1,4 +1,4 @@
--- V of bounded sums, and how large n·Q, V and T can be.
+-- V of bounded sums, and bounds on n·Q, V and T.
 use mathlib.Core.Path.{_≡_, sym, ap}
 use Prim.Native.Nat.{_*_, _-_, _≤_, _^_}
 use native.Mathlib.Omega.{arith}

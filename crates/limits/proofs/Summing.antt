@@ -1,4 +1,4 @@
--- The sums of some words, word by word: they are bounded, since V of some words is not negative.
+-- The sums of some words, word by word. They are bounded, because V of some words is not negative.
 use mathlib.Core.Path.{_≡_, refl, sym, ap, _∙_}
 use mathlib.Core.List.{List, [], _∷_, _++_}
 use Prim.Native.Nat.{ℕ, _+_, _*_, _<_, _≤_, _^_}
@@ -38,7 +38,7 @@ pub count-is : (ws : List ℤ) (s : Sums) → AreSums ws s → s .n ≡ length w
 unfolding sumsOf
 count-is ws s h = ap (λ (x : guide.Sums). x .n) (h .same)
 
--- the word at i, as the machine holds it, added to the sums of the words before it
+-- the word at i, as the computer holds it, added to the sums of the words before it
 pub of-one-more : (s r : Sums) (ws : List ℤ) (i : ℕ) → let w = getD ws i (pos 0) in
     i < length ws → SFits w16 w → AreSums (take i ws) s → s .n < baseMost
     → sumsSay r ≡ withWord (sumsSay s) (toZ w16 (ofZ w16 w)) → AreSums (take (i + 1) ws) r

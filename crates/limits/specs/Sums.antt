@@ -1,4 +1,4 @@
--- What the structs of `limits` say in the paper's terms, and the numbers that the sums of sixteen-bit words stay within.
+-- What the structs of `limits` say in the paper's terms, and bounds on the sums of sixteen-bit words.
 use mathlib.Core.Path.{_≡_}
 use mathlib.Core.List.{List}
 use Prim.Native.Nat.{ℕ, _*_, _-_, _≤_, _<_, _^_}
@@ -19,7 +19,7 @@ sumsSay s = record { n = s .n; t = s .t; q = pos (s .q) }
 abbrev pub limitsSay : Limits → guide.Limits
 limitsSay l = record { kind = l .kind; sums = sumsSay (l .sums) }
 
--- the sums of at most 32 words of sixteen bits lie within these numbers, and V is not negative
+-- bounds on the sums of at most 32 words of sixteen bits. By the last bound V is not negative
 pub record Bounded (s : Sums) : Type 0 where
   pub few : s .n ≤ baseMost
   pub sum : natAbs (s .t) ≤ 2 ^ 15 * s .n
@@ -36,27 +36,27 @@ pub record AreLimits (kind : ℕ) (ws : List ℤ) (l : Limits) : Type 0 where
   pub same : limitsSay l ≡ guide.limitsOf kind ws
   pub bounded : Bounded (l .sums)
 
--- a word is beyond the upper limit at the multiple m; beyond the lower one
+-- b says whether a word is beyond the upper limit at the multiple m, and whether it is beyond the lower one
 pub record IsBeyond (m : ℕ) (limits : guide.Limits) (w : ℤ) (b : BeyondLimits) : Type 0 where
   pub upper : b .upper ≡ guide.beyondUpper m limits w
   pub lower : b .lower ≡ guide.beyondLower m limits w
 
--- .. at the paper's warning limits
+-- the same for the warning limits
 pub record IsBeyondWarning (limits : guide.Limits) (w : ℤ) (b : BeyondLimits) : Type 0 where
   pub upper : b .upper ≡ guide.beyondUpperWarning limits w
   pub lower : b .lower ≡ guide.beyondLowerWarning limits w
 
--- a word is strictly above the mean; strictly below it
+-- r says whether a word is strictly above the mean, and whether it is strictly below it
 pub record IsSide (s : guide.Sums) (w : ℤ) (r : Side) : Type 0 where
   pub above : r .above ≡ guide.aboveMean s w
   pub below : r .below ≡ guide.belowMean s w
 
--- the two sides of the comparison of d with m·S
+-- the two sides of the comparison of d / n with m·S: d²·(n − 1) and m²·n·V
 pub record AreSquares (m : ℕ) (s : guide.Sums) (d : ℤ) (r : Squares) : Type 0 where
   pub deviation : pos (r .deviation) ≡ d *ℤ d *ℤ pos (s .n - 1)
   pub limit : pos (r .limit) ≡ pos (m * m * s .n) *ℤ guide.vOf s
 
--- the two sides of the comparison of d with m·S fit 64 bits. The square of a d below 2^29, 32 times, is below 2^64
+-- the two sides of that comparison fit 64 bits. For a d below 2^29, d² times 32 is below 2^64
 pub record Comparable (m : ℕ) (s : Sums) (d : ℤ) : Type 0 where
   pub bounded : Bounded s
   pub limit : m * m * (s .n * natAbs (guide.vOf (sumsSay s))) < 2 ^ 64

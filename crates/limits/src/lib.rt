@@ -1,8 +1,8 @@
-// Sums of words, and a word against a limit: document 01, "Base, limits, rejection".
+// Sums of words, and the comparison of a word with a limit: document 01, "Base, limits, rejection".
 //
 // A limit is the mean plus or minus a multiple m of S. `limits_of` gives what a word is judged by: a chart kind, with n, T and Q of some
-// words. `beyond` compares a word with the limits at any m, by squares of whole numbers, `beyond_control` and `beyond_warning` at the
-// paper's 3 and 2. `near_mean` and `side_of_mean` say where a word lies about the mean.
+// words. `beyond` compares a word with the limits at any m, by squares of whole numbers. `beyond_control` and `beyond_warning` do this at
+// the paper's 3 and 2. `near_mean` and `side_of_mean` compare a word with the mean.
 ghost use mathlib.Core.Path.{_≡_};
 ghost use Prim.Native.Nat.{_≤_, _<_};
 ghost use lib.ListN.{length};
@@ -18,7 +18,7 @@ pub const CONTROL: u8 = 3;
 
 pub const WARNING: u8 = 2;
 
-// The number n of words, their sum T, and the sum Q of their squares. V = n·Q − T² is worked out from these.
+// The number n of words, their sum T, and the sum Q of their squares. They give V = n·Q − T².
 pub struct Sums {
     pub n: u64,
     pub t: i64,
@@ -79,7 +79,7 @@ pub fn beyond_control(l: Limits, w: i16) -> bool
     b.upper | b.lower
 }
 
-// Beyond the warning limit on either side.
+// Whether a word is beyond the upper warning limit, and whether it is beyond the lower one.
 pub fn beyond_warning(l: Limits, w: i16) -> BeyondLimits
     requires { ⌜ Bounded (l .sums) ⌝ }
     ensures { λ r. ⌜ IsBeyondWarning (limitsSay l) w r ⌝ }
@@ -109,7 +109,7 @@ pub fn side_of_mean(l: Limits, w: i16) -> Side
     }
 }
 
-// A word against the limits at the multiple m. Kind 1 has no lower limit.
+// Compares a word with the limits at the multiple m. Kind 1 has no lower limit.
 pub fn beyond(m: u8, l: Limits, w: i16) -> BeyondLimits
     requires { ⌜ Bounded (l .sums) ⌝ }
     ensures { λ r. ⌜ IsBeyond m (limitsSay l) w r ⌝ }
@@ -129,7 +129,7 @@ pub fn has_lower(kind: u16) -> bool
     (kind == 2) | (kind == 3)
 }
 
-// Is a deviation of d / n more than m·S, up or down?
+// Whether a deviation of d / n, up or down, is more than m·S.
 fn exceeds(m: u16, s: Sums, d: i64) -> bool
     requires { ⌜ Comparable m s d ⌝ }
     ensures { λ r. ⌜ r ≡ guide.exceeds m (sumsSay s) d ⌝ }
@@ -138,7 +138,7 @@ fn exceeds(m: u16, s: Sums, d: i64) -> bool
     x.limit < x.deviation
 }
 
-// Is it less than m·S?
+// Whether a deviation of d / n, up or down, is less than m·S.
 fn within(m: u16, s: Sums, d: i64) -> bool
     requires { ⌜ Comparable m s d ⌝ }
     ensures { λ r. ⌜ r ≡ guide.within m (sumsSay s) d ⌝ }
@@ -153,7 +153,7 @@ fn squares_of(m: u16, s: Sums, d: i64) -> Squares
     ensures { λ r. ⌜ AreSquares m (sumsSay s) d r ⌝ }
 {
     let n = s.n;
-    // With no word n − 1 is not to be had, and both are 0.
+    // Without words n − 1 would be negative, and both sides are 0.
     if n == 0 {
         return Squares {
             deviation: 0,
@@ -185,7 +185,7 @@ fn scaled_deviation(s: Sums, w: i16) -> i64
     (s.n as i64) * (w as i64) - s.t
 }
 
-// The sums of one word more.
+// The sums after one more word.
 fn with_word(s: Sums, w: i16) -> Sums
     requires { ⌜ (s .n < baseMost) × Bounded s ⌝ }
     ensures { λ r. ⌜ sumsSay r ≡ guide.withWord (sumsSay s) w ⌝ }
@@ -204,7 +204,7 @@ fn square(w: i16) -> u64
     a * a
 }
 
-// The absolute value. Of a negative number `!z` is |z| − 1, which fits whatever z is.
+// The absolute value. For a negative z, `!z` is |z| − 1, which always fits.
 pub fn magnitude(z: i64) -> u64
     ensures { λ r. ⌜ r ≡ natAbs z ⌝ }
 {

@@ -1,6 +1,6 @@
--- The lines that limits give, and those of a chart. Of a sound chart the sums of its base are such that lines can be worked out from them
--- (`has-lines`), and a word is beyond a line exactly if it is beyond the exact limit (`lines-compared`), with which a word can be compared
--- as well (`limits-compared`). One that is not sound is declined.
+-- The lines that limits give, and the lines of a chart. If the chart is sound, its lines can be worked out from the sums of its base
+-- (`has-lines`). A word is beyond a line exactly if it is beyond the exact limit (`lines-compared`). The word can also be compared with the
+-- limit itself (`limits-compared`). A chart that is not sound is refused.
 use mathlib.Core.Path.{_≡_, ap, _∙_}
 use mathlib.Core.Bool.{true, false}
 use Prim.Native.Nat.{ℕ, _*_}
@@ -41,7 +41,7 @@ use Rattle.lines.proofs.Comparing.{float-beyond}
 
 -- ---- the lines that limits give, line by line
 
--- by the deviations at the two multiples
+-- from the deviations for the two multiples
 module _ (l : Limits) (warning control : ℕ)
     (w : warning ≡ greatestDeviation (lineParts * warningMultiple) (sumsSay (l .sums)))
     (c : control ≡ greatestDeviation (lineParts * controlMultiple) (sumsSay (l .sums)))
@@ -116,7 +116,7 @@ module _ (c : Chart) (t : soundChart c ≡ true) where
   unfolding answerToLines
   lines-given lines e = rw t (ap linesGiven e)
 
-  -- a word against its lines is the word against its limits
+  -- a word is beyond the chart's lines exactly if it is beyond its limits
   judged-by-chart : (w : ℤ) → guide.beyondLines (linesOf (limitsFor (stateOf c))) w ≡ beyondEach (limitsFor (stateOf c)) w
   unfolding limitsFor limitsOf sumsOf
   judged-by-chart w =
@@ -137,7 +137,7 @@ module _ (c : Chart) (t : soundChart c ≡ true) where
   unfolding answerToAgainst
   comparison-given w b e = rw t (ap compared e)
 
--- ---- one that is not sound
+-- ---- a chart that is not sound
 
 pub lines-declined : (c : Chart) → soundChart c ≡ false → refused 14 ≡ answerToLines c
 unfolding answerToLines

@@ -1,4 +1,4 @@
--- A word against lines as doubles: of the lines that limits give, the comparison of doubles is that of 256·w with k (`float-beyond`).
+-- A word against lines as doubles. For the lines that limits give, to compare the doubles is to compare 256·w with k (`float-beyond`).
 use mathlib.Core.Path.{_≡_}
 use mathlib.Core.Bool.{Bool, false}
 use Prim.Native.Nat.{_≤_, _^_}
@@ -45,7 +45,7 @@ module _ (w : ℤ) (few : natAbs w ≤ 2 ^ 53) where
       })
       (λ t i. record { lowerWarning = false; upperWarning = upper-warning i; lowerControl = false; upperControl = upper-control i })
 
--- ---- any doubles: what the comparisons of a word, as the program holds it, give together
+-- ---- any doubles: what the comparisons with a word, as the program holds it, give together
 
 abbrev heldWord : ℤ → ℤ
 heldWord w = toZ w16 (ofZ w16 w)

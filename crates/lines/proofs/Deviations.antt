@@ -1,4 +1,4 @@
--- The greatest whole d for which d / n is not more than 256·m·S, as the program works it out: its products fit 64 bits.
+-- The greatest whole number d for which d / n is at most 256·m·S, as the program works it out. Its products fit 64 bits.
 use mathlib.Core.Path.{_≡_, ap}
 use Prim.Native.Nat.{ℕ, _*_, _-_, _/_, _<_, _≤_, _^_}
 use native.Mathlib.Omega.{arith}

@@ -1,4 +1,4 @@
--- The double k / 256, as the program works it out of a line k.
+-- The double k / 256, as the program works it out from a line k.
 use mathlib.Core.Path.{_≡_, refl, ap, _∙_}
 use mathlib.Core.Bool.{false}
 use Prim.Native.Nat.{_≤_, _^_}
@@ -15,7 +15,7 @@ use Rattle.guide.proofs.Double.{quotient-is}
 use Rattle.guide.proofs.Held.{small-fits}
 use Rattle.lines.specs.Lines.{IsParts}
 
--- a whole number of at most 2^53 can be cast
+-- a whole number of at most 2^53 in size can be cast to a double
 pub in-double : (k : ℤ) → natAbs k ≤ 2 ^ 53 → T (inFloat binary64 k)
 unfolding inFloat
 in-double (pos n) h = le→leb n (2 ^ 53) h

@@ -1,4 +1,4 @@
--- The doubles of a sound chart's lines: k is at most 2 ^ 34 in size, and the program reads just that k off its double (`lines-held`).
+-- The doubles of a sound chart's lines: k is at most 2 ^ 34 in size, and the program reads exactly this k off its double (`lines-held`).
 use mathlib.Core.Path.{_≡_, refl, ap, _∙_}
 use mathlib.Core.Bool.{true}
 use mathlib.Core.List.{List, [], _∷_}
@@ -43,9 +43,9 @@ use Rattle.lines.proofs.LineParts.{parts-small, plus-small, minus-small
 use Rattle.lines.proofs.PartsHeld.{held-whole}
 use Rattle.lines.proofs.ChartLines.{has-lines}
 
--- ---- how large the lines are that sums give
+-- ---- the size of the lines that sums give
 
--- a root of 64 bits has 32
+-- the root of a number of 64 bits has 32 bits
 root-small : (q : ℕ) → q < 2 ^ 64 → squareRoot q < 2 ^ 32
 root-small q h =
     by-order (squareRoot q) (2 ^ 32)

@@ -1,4 +1,4 @@
--- Lines as whole numbers of 256ths, as the program works them out: 256·T and d fit 64 bits, and so does each line that they give.
+-- Lines as whole numbers of 256ths, as the program works them out. 256·T and d fit 64 bits, and so does each line that they give.
 use mathlib.Core.Path.{_≡_, ap, _∙_}
 use Prim.Native.Nat.{ℕ, _*_, _<_, _≤_, _^_}
 use native.Mathlib.Omega.{arith}
@@ -41,7 +41,7 @@ module _ (s : Sums) (b : Bounded s) (t : ℤ) (e : t ≡ pos lineParts *ℤ s .t
   mean-parts r f =
       are-parts _ r (rw held-sum at f) (omega (arith, down-small (pos lineParts *ℤ s .t) (s .n), parts-small s b))
 
-  -- 256·T + d and 256·T − d, of a d of 32 bits
+  -- 256·T + d and 256·T − d, for a d of 32 bits
   module _ (d : ℕ) (few : d < 2 ^ 32) where
     pub plus-small : natAbs (pos lineParts *ℤ s .t +ℤ pos d) ≤ 2 ^ 34
     plus-small = omega (arith, parts-small s b, magnitude-plus (pos lineParts *ℤ s .t) (pos d))
@@ -70,7 +70,7 @@ module _ (s : Sums) (b : Bounded s) (t : ℤ) (e : t ≡ pos lineParts *ℤ s .t
         let z = pos lineParts *ℤ s .t -ℤ pos d in
         are-parts (quotientUp z (s .n)) r (rw (minus-held .is) at f) (omega (arith, up-small z (s .n), minus-small))
 
--- by the greatest deviation that is not more than m·S, the line at m
+-- the greatest d for which d / n is at most 256·m·S gives the line for the multiple m
 module _ (m d : ℕ) (s : limits.Sums) (is : d ≡ greatestDeviation (lineParts * m) s) where
   pub upper-by : upperLineBy d s ≡ upperLine m s
   unfolding upperLineBy upperLine

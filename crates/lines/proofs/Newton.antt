@@ -1,4 +1,4 @@
--- A square root by Newton's steps: guesses of at most 2^32 that fall and are never below the root of q, which is not 0.
+-- A square root by Newton's method. The guesses are at most 2^32, they fall, and they are never below the root of q. q is not 0.
 use mathlib.Core.Path.{_≡_, ap, _∙_}
 use Prim.Native.Nat.{ℕ, zero, suc, _+_, _*_, _-_, _/_, _%_, _<_, _≤_, _^_}
 use native.Mathlib.Omega.{arith}
@@ -40,7 +40,7 @@ first-guess q h =
 abbrev pub nextGuess : ℕ → ℕ → ℕ
 nextGuess q guess = (guess + q / guess) / 2
 
--- twice a product is no more than the squares together
+-- twice the product of two numbers is at most the sum of their squares
 squares-more : (a b : ℕ) → 2 * (a * b) ≤ a * a + b * b
 squares-more a b =
     by-order a b
@@ -49,7 +49,7 @@ squares-more a b =
     let d = le-dest more in
     omega (arith, ap (λ (x : ℕ). a * x) (d .1), ap (λ (x : ℕ). x * x) (d .1)))
 
--- so the square of the mean of two numbers, rounded up, is no less than their product
+-- so the square of the mean of two numbers, rounded up, is not less than their product
 mean-square : (q a b m : ℕ) → q < a * (b + 1) → a + b + 1 ≤ 2 * m → q < m * m
 mean-square q a b m less sum = omega (arith, squares-more a m, mul-le-mul-left a sum)
 
@@ -58,7 +58,7 @@ not-zero q zero some h = absurd (omega arith)
 not-zero q (suc guess) some h = omega arith
 
 module _ (q guess : ℕ) (is : IsGuess q guess) where
-  -- a guess that q / guess is below falls
+  -- if q / guess is below the guess, the next guess is less
   pub next-less : q / guess < guess → nextGuess q guess < guess
   next-less h = omega arith
 
@@ -67,7 +67,7 @@ module _ (q guess : ℕ) (is : IsGuess q guess) where
       let above = mean-square q guess (q / guess) (nextGuess q guess + 1) (lt-mul-div-succ q (is .some)) (omega arith) in
       record { not-below = above; some = not-zero q (nextGuess q guess) some above; most = omega (arith, is .most) }
 
-  -- one that it is not below is the root
+  -- if q / guess is not below the guess, the guess is the root
   square-most : guess ≤ q / guess → guess * guess ≤ q
   square-most h = le-div-iff-mul-le (is .some) .0 h
 

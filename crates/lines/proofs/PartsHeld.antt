@@ -1,5 +1,5 @@
--- 256 · x as a double. Below 2 ^ 63 in size it is exact, so that its whole part toward 0 is the k that is read off x (`held-between`).
--- From 2 ^ 63 on a comparison of doubles says so (`held-low`, `held-high`), and so it does of what is not finite.
+-- 256 · x as a double. Below 2 ^ 63 in size it is exact, so its whole part toward 0 is the k that is read off x (`held-between`).
+-- If it is 2 ^ 63 or more in size, or not finite, a comparison of doubles shows this (`held-low`, `held-high`).
 use mathlib.Core.Path.{_≡_, refl, sym, ap, _∙_, subst}
 use mathlib.Core.Bool.{Bool, true, false, cond, _&&_, _||_, true≢false}
 use Prim.Native.Nat.{ℕ, zero, suc, _+_, _*_, _-_, _/_, _%_, _^_, _≤_, _<_}
@@ -93,7 +93,7 @@ scaled-value s (suc m) e t h =
 
 -- ---- a double of the size a / c, below 2 ^ 63
 
--- what the code's tests show of y, where its whole part is z
+-- what the code's tests show of y, whose whole part is z
 record Between (y : Float) (z : ℤ) : Type 0 where
   low : lt (bound true) y ≡ true
   high : lt y (bound false) ≡ true
@@ -184,7 +184,7 @@ rounded-low a c some h = rw round-negative (opposite (round binary64 false a c) 
 
 -- ---- together, for any double
 
--- k is of the size of 256 · x without its fraction
+-- the size of k is that of 256 · x without its fraction
 parts-size : (s : Bool) (m : ℕ) (e : ℤ) → natAbs (partsIn (fin s m e)) ≡ m * up e * lineParts / down e
 unfolding partsIn
 parts-size true m e = magnitude-negated (pos (m * up e * lineParts / down e))
@@ -198,7 +198,7 @@ held-none : (x : Float) → 2 ^ 63 ≤ natAbs (partsIn x) → partsHeld x ≡ po
 unfolding partsHeld
 held-none x h = rw (le-ltb (natAbs (partsIn x)) (2 ^ 63) h)
 
--- k is held, and the code's tests show it; or it is not, and a comparison says so
+-- k is held, and the code's tests show it. Or k is not held, and a comparison shows this
 data Scaled (x : Float) : Type 0 where
   held : Between (scaled x) (partsHeld x) → Scaled x
   too-high : lt (scaled x) (bound false) ≡ false → partsHeld x ≡ pos 0 → Scaled x
@@ -230,7 +230,7 @@ scaled-any (inf false) t = too-high refl (held-whole (inf false) (lit< tt))
 scaled-any (inf true) t = too-low refl (held-whole (inf true) (lit< tt))
 scaled-any (fin s m e) t = scaled-finite s m e t
 
--- ---- what the code asks and answers
+-- ---- what the code tests and answers
 
 pub less-or-equal : (x y : Float) → lt x y ≡ true → T (le x y)
 unfolding le

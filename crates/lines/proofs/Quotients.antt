@@ -1,5 +1,5 @@
--- Quotients rounded down and up, of numbers as the program holds them. Of a negative number the quotient is given by `!z`. No quotient is
--- larger than the number that is divided.
+-- Quotients rounded down and up, of numbers as the program holds them. The quotient of a negative number z comes from `!z`. No quotient is
+-- larger in size than the number that is divided.
 use mathlib.Core.Path.{_≡_, sym, ap, _∙_}
 use mathlib.Core.Bool.{true, false, false≢true}
 use Prim.Native.Nat.{ℕ, suc, _-_, _/_, _<_, _≤_, _^_}
@@ -15,7 +15,7 @@ use Rattle.guide.specs.Lines.{quotientDown, quotientUp}
 use Rattle.guide.proofs.Integers.{magnitude-negated}
 use Rattle.guide.proofs.Held.{small-fits, Held, held}
 
--- ---- how large a quotient is
+-- ---- the size of a quotient
 
 pub down-small : (z : ℤ) (n : ℕ) → natAbs (quotientDown z n) ≤ natAbs z
 unfolding quotientDown
@@ -32,7 +32,7 @@ up-small z n =
 pub quotient-fits : (a n : ℕ) → a < 2 ^ 63 → SFits w64 (pos (a / n))
 quotient-fits a n h = record { sfits = omega (arith, div-le-self a n) }
 
--- |z| − 1 of a number below 0, divided by n; the complement of its bits is the quotient
+-- for z below 0: |z| − 1 is divided by n, and the complement of its bits is the quotient
 pub complement-quotient : (z : ℤ) (n : ℕ) → SFits w64 z → ltZ (toZ w64 (ofZ w64 z)) (pos 0) ≡ true
     → toZ w64 ((2 ^ 64 - 1) - (natAbs z - 1) / n) ≡ quotientDown z n
 unfolding quotientDown

@@ -30,7 +30,7 @@ use Rattle.lines.specs.declared.AgainstAnswer.the-variants as against
 
 -- ---- what the cases say
 
--- a kind 1 chart's three doubles; a struct of five
+-- the three doubles of a kind 1 chart, or the five of another chart
 unfoldable pub linesSay : Lines → guide.Lines
 linesSay (lines.Duplicate mean upperWarning upperControl) = guide.duplicate mean upperWarning upperControl
 linesSay (lines.TwoSided l) = guide.twoSided (l .mean) (l .«lower_warning») (l .«upper_warning») (l .«lower_control») (l .«upper_control»)
@@ -48,7 +48,7 @@ beyondSays b =
       upperControl = b .«upper_control»;
     }
 
--- whether the word is beyond each limit, or the number for what is declined
+-- whether the word is beyond each limit, or the number of the refusal
 pub data AgainstSaid : Type 0 where
   compared : guide.BeyondEach → AgainstSaid
   declined : ℕ → AgainstSaid
@@ -62,11 +62,11 @@ againstSays (against.Refused n) = declined n
 unfoldable pub answerToLines : Chart → ChartLinesAnswer
 answerToLines c = require (soundChart c) (refused 14) (linesGiven (linesOf (limitsFor (stateOf c))))
 
--- a word against the lines, by the exact limits
+-- whether a word is beyond each line, by the exact limits
 unfoldable pub answerToAgainst : Chart → ℤ → AgainstSaid
 answerToAgainst c w = require (soundChart c) (declined 14) (compared (beyondEach (limitsFor (stateOf c)) w))
 
--- ---- a word against any doubles, as a comparison of doubles. Where the double denotes k / 256 it is 256·w against k (`proofs/Comparing`)
+-- ---- a word against any doubles, as a comparison of doubles. If the double denotes k / 256, it compares 256·w with k (`proofs/Comparing`)
 
 abbrev pub floatAbove : Float → ℤ → Bool
 floatAbove x w = lt x (ofInt binary64 w)
@@ -79,23 +79,23 @@ floatBeyond lines w = beyondBy floatAbove floatBelow lines w
 
 -- ---- the whole number k of 256ths that a line's double denotes
 
--- k, where it is small enough for the program's numbers: below 2 ^ 63 in size. Otherwise 0
+-- k, if it is below 2 ^ 63 in size, so that the program's numbers hold it. Otherwise 0
 unfoldable pub partsHeld : Float → ℤ
 partsHeld x = choose (ltb (natAbs (partsIn x)) (2 ^ 63)) (partsIn x) (pos 0)
 
--- the whole numbers k of the lines that sums give, up to three times S, are at most 2 ^ 34 in size
+-- the lines that sums give, up to three times S from the mean, have whole numbers k of at most 2 ^ 34 in size
 pub record AreSmallLines (s : limits.Sums) : Type 0 where
   pub of-mean : natAbs (meanLine s) ≤ 2 ^ 34
   pub of-upper : (m : ℕ) → m ≤ 3 → natAbs (upperLine m s) ≤ 2 ^ 34
   pub of-lower : (m : ℕ) → m ≤ 3 → natAbs (lowerLine m s) ≤ 2 ^ 34
 
--- x is the double of k, and k is held
+-- x is the double of k. k is small, so `partsHeld` gives it back
 pub record IsHeldLine (k : ℤ) (x : Float) : Type 0 where
   pub double : x ≡ doubleOf k
   pub small : natAbs k ≤ 2 ^ 34
   pub held : partsHeld x ≡ k
 
--- all lines that these sums give: kind 1 has three, the others five
+-- `IsHeldLine` for all lines that these sums give: kind 1 has three, the other kinds five
 pub record AreHeldDuplicate (s : limits.Sums) (mean upperWarning upperControl : Float) : Type 0 where
   pub of-mean : IsHeldLine (meanLine s) mean
   pub of-upper-warning : IsHeldLine (upperLine warningMultiple s) upperWarning
@@ -115,17 +115,17 @@ AreHeldLines s (guide.twoSided mean lowerWarning upperWarning lowerControl upper
 
 -- ---- a line by its deviation d from the mean, in 256ths of an n-th
 
--- the greatest k for which n·k is at most 256·T + d, and the least k for which n·k is at least 256·T − d. Where d is the greatest whole
--- number for which d / n is not more than (256·m)·S, these are the guide's lines at m (`proofs/LineParts`)
+-- the greatest k for which n·k is at most 256·T + d, and the least k for which n·k is at least 256·T − d. If d is the greatest whole
+-- number for which d / n is at most (256·m)·S, these are the guide's lines for the multiple m (`proofs/LineParts`)
 unfoldable pub upperLineBy : ℕ → limits.Sums → ℤ
 upperLineBy d s = quotientDown (pos lineParts *ℤ s .t +ℤ pos d) (s .n)
 
 unfoldable pub lowerLineBy : ℕ → limits.Sums → ℤ
 lowerLineBy d s = quotientUp (pos lineParts *ℤ s .t -ℤ pos d) (s .n)
 
--- ---- what the functions within ask and give
+-- ---- what the internal functions require and give
 
--- the sums of two words or more whose squares are together no more than those of words in range: (256·3)²·n·V then fits 64 bits
+-- the sums of two or more words. The sum of squares is at most that of words in range, so (256·3)²·n·V fits 64 bits
 pub record HasLines (s : Sums) : Type 0 where
   pub bounded : Bounded s
   pub two : 2 ≤ s .n

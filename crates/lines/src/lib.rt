@@ -1,12 +1,12 @@
-// Lines for the plotter: document 01, "Lines for the plotter". The limits of a chart and its mean as doubles, each a whole number k of
-// 256ths: an upper limit rounded down, a lower limit rounded up, the mean rounded down. k is worked out in whole numbers (`parts`) and
-// then divided by 256, which a double does exactly.
+// Lines for the plotter: document 01, "Lines for the plotter". The limits of a chart and its mean are doubles, each a whole number k of
+// 256ths. An upper limit is rounded down, a lower limit up, the mean down. `parts` works out k in whole numbers. Then k is divided by 256,
+// which is exact in doubles.
 //
-// `lines_of` and `against_lines` decline a chart that is not sound, with 14.
+// `lines_of` and `against_lines` refuse a chart that is not sound, with 14.
 //
-// A word is compared with a chart's lines in two ways that give the same by proof. `against_lines` works the doubles out and compares with
-// these, as a plotter that was given them does: it is the way that shows that the lines judge as the limits do. `against_lines_sound` is
-// for whoever wants the answer only: it compares with the exact limits, and so takes no square root and makes no double.
+// There are two ways to compare a word with a chart's lines. They are proved to give the same answer. `against_lines` works out the doubles
+// and compares the word with them, as a plotter does. So its proof shows that the lines judge as the limits do. `against_lines_sound`
+// compares the word with the exact limits. It needs no square root and no double, and serves a caller that needs only the answer.
 mod parts;
 
 use chart::Chart;
@@ -59,7 +59,7 @@ pub enum LinesAnswer {
     Refused(u16),
 }
 
-// Whether a word is beyond each of the limits. Kind 1 has no lower ones, so no word is beyond these.
+// Whether a word is beyond each limit. Kind 1 has no lower limits, so no word is beyond them.
 pub struct BeyondEach {
     pub lower_warning: bool,
     pub upper_warning: bool,
@@ -82,7 +82,7 @@ pub fn lines_of(chart: Chart) -> LinesAnswer
     LinesAnswer::Done(lines_of_sound(chart))
 }
 
-// A word against the lines of a chart, by their doubles: the same answer as by the exact limits.
+// Whether a word is beyond each line of a chart, by the doubles. The exact limits give the same answer.
 pub fn against_lines(chart: Chart, word: i16) -> AgainstAnswer
     ensures { λ r. ⌜ againstSays r ≡ answerToAgainst chart word ⌝ }
 {
@@ -92,7 +92,7 @@ pub fn against_lines(chart: Chart, word: i16) -> AgainstAnswer
     AgainstAnswer::Done(beyond_lines(lines_of_sound(chart), word))
 }
 
-// ---- the same of a chart that is known to be sound, as one that was just read is
+// ---- the same for a chart that is known to be sound, such as one that was just read
 
 pub fn lines_of_sound(chart: Chart) -> Lines
     requires { ⌜ soundChart chart ≡ true ⌝ }
@@ -101,7 +101,7 @@ pub fn lines_of_sound(chart: Chart) -> Lines
     lines_by(base_limits(chart))
 }
 
-// By the exact limits: no line is worked out.
+// Compares with the exact limits, and works out no line.
 pub fn against_lines_sound(chart: Chart, word: i16) -> BeyondEach
     requires { ⌜ soundChart chart ≡ true ⌝ }
     ensures { λ r. ⌜ beyondSays r ≡ beyondEach (limitsFor (stateOf chart)) word ⌝ }
@@ -117,7 +117,7 @@ pub fn against_lines_sound(chart: Chart, word: i16) -> BeyondEach
     }
 }
 
-// The limits that its base gives.
+// The limits that the chart's base gives.
 fn base_limits(chart: Chart) -> Limits
     requires { ⌜ soundChart chart ≡ true ⌝ }
     ensures { λ r. ⌜ LimitsFor (stateOf chart) r ⌝ }
@@ -129,7 +129,7 @@ fn base_limits(chart: Chart) -> Limits
 
 // ---- a word against doubles
 
-// A word against lines, whatever their doubles are.
+// Whether a word is beyond each of these lines. Their doubles may be any.
 pub fn beyond_lines(lines: Lines, word: i16) -> BeyondEach
     ensures { λ r. ⌜ beyondSays r ≡ floatBeyond (linesSay lines) word ⌝ }
 {
@@ -153,7 +153,7 @@ pub fn beyond_lines(lines: Lines, word: i16) -> BeyondEach
     }
 }
 
-// The whole number k of 256ths that a line's double denotes. A double whose k does not fit 64 bits, which no line is, counts as 0.
+// The whole number k of 256ths that a line's double denotes. If k is 2^63 or more in size, the answer is 0. No chart's line has such a k.
 pub fn parts_in(line: f64) -> i64
     ensures { λ r. ⌜ r ≡ partsHeld line ⌝ }
 {
@@ -216,7 +216,7 @@ fn mean_line(s: Sums) -> f64
     line_of(mean_parts(s))
 }
 
-// The line above the mean by the deviation d.
+// The line at the deviation d above the mean.
 fn upper_line(d: u32, s: Sums) -> f64
     requires { ⌜ HasLines s ⌝ }
     ensures { λ r. ⌜ r ≡ doubleOf (upperLineBy d (sumsSay s)) ⌝ }
@@ -224,7 +224,7 @@ fn upper_line(d: u32, s: Sums) -> f64
     line_of(upper_parts(d, s))
 }
 
-// The line below it.
+// The line at the deviation d below the mean.
 fn lower_line(d: u32, s: Sums) -> f64
     requires { ⌜ HasLines s ⌝ }
     ensures { λ r. ⌜ r ≡ doubleOf (lowerLineBy d (sumsSay s)) ⌝ }

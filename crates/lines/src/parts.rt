@@ -1,6 +1,6 @@
-// The whole numbers k of 256ths of the lines that sums of words give. With d the greatest whole number for which d / n is not more than
-// 256·m·S, an upper limit is the greatest k with n·k ≤ 256·T + d, and a lower one the least k with n·k ≥ 256·T − d. d is a square root,
-// which is worked out once for both (`deviation_parts`).
+// The lines that sums of words give, as whole numbers k of 256ths. Let d be the greatest whole number for which d / n is at most 256·m·S.
+// Then an upper limit is the greatest k with n·k ≤ 256·T + d, and a lower limit the least k with n·k ≥ 256·T − d. d is a square root.
+// `deviation_parts` works it out once for both.
 use chart::Chart;
 use limits::Sums;
 use limits::v_of;
@@ -13,7 +13,7 @@ ghost use Rattle.guide.specs.Lines as guide;
 ghost use Rattle.limits.specs.Sums.{Bounded, sumsSay};
 ghost use Rattle.lines.specs.Lines.{upperLineBy, lowerLineBy, HasLines, IsParts};
 
-// The mean, rounded down.
+// 256 times the mean, rounded down.
 pub fn mean_parts(s: Sums) -> i64
     requires { ⌜ HasLines s ⌝ }
     ensures { λ r. ⌜ IsParts (guide.meanLine (sumsSay s)) r ⌝ }
@@ -21,7 +21,7 @@ pub fn mean_parts(s: Sums) -> i64
     quotient_down(sum_parts(s), s.n)
 }
 
-// 256 times the mean, + d / n, rounded down.
+// 256 times the mean plus d / n, rounded down.
 pub fn upper_parts(d: u32, s: Sums) -> i64
     requires { ⌜ HasLines s ⌝ }
     ensures { λ r. ⌜ IsParts (upperLineBy d (sumsSay s)) r ⌝ }
@@ -29,7 +29,7 @@ pub fn upper_parts(d: u32, s: Sums) -> i64
     quotient_down(sum_parts(s) + (d as i64), s.n)
 }
 
-// 256 times the mean, − d / n, rounded up.
+// 256 times the mean minus d / n, rounded up.
 pub fn lower_parts(d: u32, s: Sums) -> i64
     requires { ⌜ HasLines s ⌝ }
     ensures { λ r. ⌜ IsParts (lowerLineBy d (sumsSay s)) r ⌝ }
@@ -37,7 +37,7 @@ pub fn lower_parts(d: u32, s: Sums) -> i64
     quotient_up(sum_parts(s) - (d as i64), s.n)
 }
 
-// The greatest whole d for which d / n is not more than 256·m·S. S itself is never rounded.
+// The greatest whole number d for which d / n is at most 256·m·S. S itself is never rounded.
 pub fn deviation_parts(m: u8, s: Sums) -> u32
     requires { ⌜ (m ≤ 3) × HasLines s ⌝ }
     ensures { λ r. ⌜ r ≡ guide.greatestDeviation (lineParts * m) (sumsSay s) ⌝ }
@@ -56,13 +56,13 @@ fn sum_parts(s: Sums) -> i64
     (Chart::LINE_PARTS as i64) * s.t
 }
 
-// The greatest whole number whose square is at most q, by Newton's steps. The first guess is a power of two that is not below the root,
-// from the number of binary digits of q. A guess above the root, which is one that q / guess is below, gives way to the mean of itself and
-// q / guess: that is less, and not below the root either. The square of a guess may be past 64 bits, and is not worked out.
+// The greatest whole number whose square is at most q, by Newton's method. The first guess comes from the number of binary digits of q. It
+// is a power of two that is not below the root. A guess is above the root if q / guess is below the guess. The next guess is then the mean
+// of the two, which is less and not below the root. The code never squares a guess, because the square can be too large for 64 bits.
 fn square_root(q: u64) -> u32
     ensures { λ r. ⌜ r ≡ squareRoot q ⌝ }
 {
-    // A guess that is divided by is not 0, and neither is the root of any other q.
+    // For any other q the root is not 0, so no guess is 0 and the division is safe.
     if q == 0 {
         return 0;
     }
@@ -73,7 +73,7 @@ fn square_root(q: u64) -> u32
     guess as u32
 }
 
-// z / n rounded up: minus (−z / n rounded down).
+// z / n rounded up. It is minus (−z / n rounded down).
 fn quotient_up(z: i64, n: u64) -> i64
     requires { ⌜ (natAbs z < 2 ^ 63) × (1 ≤ n) ⌝ }
     ensures { λ r. ⌜ r ≡ guide.quotientUp z n ⌝ }
@@ -81,7 +81,7 @@ fn quotient_up(z: i64, n: u64) -> i64
     0 - quotient_down(0 - z, n)
 }
 
-// z / n rounded down. Of a negative z `!z` is |z| − 1, and `!` of (|z| − 1) / n is z / n rounded down.
+// z / n rounded down. For a negative z, `!z` is |z| − 1, and `!` of (|z| − 1) / n is z / n rounded down.
 fn quotient_down(z: i64, n: u64) -> i64
     requires { ⌜ 1 ≤ n ⌝ }
     ensures { λ r. ⌜ r ≡ guide.quotientDown z n ⌝ }

@@ -1,7 +1,7 @@
--- Demand 3 over any chain of calls of the methods. Building or reading, each call, and lines hold what their contracts say of the result,
--- in the form in which these are read off the source (`Reads.Post`). A call takes the chart that the call before it gave back. From a
--- chart that building gave (`claim-from-words`) or reading (`claim-from-bytes`), with lines asked of the last chart, the claim holds of
--- the whole list.
+-- Demand 3 over any chain of calls of the methods. The results of building or reading, of each call and of lines meet their contracts,
+-- in the form in which these are read off the source (`Reads.Post`). A call takes the chart that the call before it gave back. The first
+-- chart comes from building (`claim-from-words`) or reading (`claim-from-bytes`), and lines are asked of the last chart. Then the claim
+-- holds for the whole list.
 use mathlib.Core.Path.{_≡_, refl, ap, _∙_}
 use mathlib.Core.Bool.{true}
 use mathlib.Core.List.{List, [], _∷_}
@@ -41,7 +41,7 @@ use Rattle.lines.proofs.lines_of.Reads as lines-reads
 use Rattle.lists.specs.Claim.{Claim}
 use Rattle.lists.proofs.Claims.{claim-of-run}
 
--- one call of a method, as its contract has it
+-- one call of a method, by its contract
 pub data Called : Chart → Call → Chart → Answer → Type 0 where
   posted : {c : Chart} {kind : ℕ} {a b d : ℤ} (r : Posted)
       → post-reads.Post tt (c, (kind, (a, (b, (d, tt))))) r (c, (kind, (a, (b, (d, tt)))))

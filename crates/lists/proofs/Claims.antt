@@ -1,5 +1,5 @@
--- The claim of demand 3 over what a run of calls leaves (`claim-of-run`): the machine's run is the chart's, a sound state stays sound, and
--- a sound state's base has words enough for lines that are as the paper asks.
+-- The claim of demand 3 for the result of a run of calls (`claim-of-run`). The machine's run is the chart's, and a sound state stays sound.
+-- The base of a sound state has enough words to give the paper's lines.
 use mathlib.Core.Path.{_≡_, ap, _∙_}
 use mathlib.Core.Bool.{true}
 use mathlib.Core.List.{List}
@@ -23,7 +23,7 @@ use Rattle.chart.proofs.Runs.{sound-runs}
 use Rattle.lines.specs.Lines.{answerToLines}
 use Rattle.lists.specs.Claim.{Claim}
 
--- ten words or more have lines
+-- a base of ten words or more has lines
 doubles-of-state : (s : State) → baseLeast ≤ length (s .base) → AreLineDoubles (limitsFor s) (linesOf (limitsFor s))
 unfolding limitsFor limitsOf sumsOf
 doubles-of-state s ten = line-doubles (limitsOf (s .kind) (s .base)) (omega arith) (v-natural (s .base))

@@ -1,6 +1,6 @@
--- Laws of the calls in a list of numbers: one call at a time (`are-calls-next`, `calls-next`, `call-read`), and at the list's end
--- (`are-calls-short`, `are-calls-end`); how many calls there are (`count-is`), and the room for their answers (`room-is`); a number as a
--- kind, and as the number of a call.
+-- Laws of the calls in a list of numbers: one call at a time (`are-calls-next`, `calls-next`, `call-read`), the end of the list
+-- (`are-calls-short`, `are-calls-end`), how many calls there are (`count-is`), the room for their answers (`room-is`), and a number as a
+-- kind and as the number of a call.
 use mathlib.Core.Path.{_≡_, refl, sym, ap, _∙_}
 use mathlib.Core.Bool.{Bool, true, false, _&&_, false≢true}
 use mathlib.Core.List.{List, [], _∷_}
@@ -65,7 +65,7 @@ heldAt numbers i = toZ w64 (ofZ w64 (getD numbers i (pos 0)))
 held-at : (numbers : List ℤ) (i : ℕ) → SFits w64 (getD numbers i (pos 0)) → heldAt numbers i ≡ getD numbers i (pos 0)
 held-at numbers i fits = toZ-ofZ fits
 
--- the call of the five numbers that are read at a place is the call that stands there
+-- the five numbers that are read at a place give the call at that place
 pub call-read : (numbers : List ℤ) (at kind : ℕ)
     → SFits w64 (getD numbers at (pos 0)) → SFits w64 (getD numbers (at + 1) (pos 0)) → SFits w64 (getD numbers (at + 2) (pos 0))
     → SFits w64 (getD numbers (at + 3) (pos 0)) → SFits w64 (getD numbers (at + 4) (pos 0)) → kind ≡ kindOf (heldAt numbers (at + 1))
@@ -81,7 +81,7 @@ call-read numbers at kind f g h i j e =
       held-at numbers (at + 4) j,
     )
 
--- numbers too few for a call are calls only where they are none
+-- if there are too few numbers for a call, they are calls only if there are none
 pub are-calls-short : (numbers : List ℤ) → length numbers < callSize → areCalls numbers ≡ eqb (length numbers) 0
 unfolding areCalls
 are-calls-short [] h = refl
@@ -100,7 +100,7 @@ are-calls-end numbers at within few =
     (λ t. eq-eqb (length (drop at numbers)) 0 (omega (arith, eqb-true at (length numbers) t)) ∙ sym t)
     (λ t. ne-eqb (length (drop at numbers)) 0 (λ e. eqb-false at (length numbers) t (omega arith)) ∙ sym t))
 
--- .. so where the numbers from a place on are calls, and there are some, there is a whole call
+-- .. so if the numbers from a place on are calls, and there are some, there is a whole call
 pub call-left : (numbers : List ℤ) (at : ℕ) → areCalls (drop at numbers) ≡ true → at < length numbers → at + callSize ≤ length numbers
 call-left numbers at t h =
     by-test (leb callSize (length (drop at numbers)))
@@ -122,7 +122,7 @@ count-is (number ∷ kind ∷ []) t = absurd (false≢true t)
 count-is (number ∷ kind ∷ a ∷ []) t = absurd (false≢true t)
 count-is (number ∷ kind ∷ a ∷ b ∷ []) t = absurd (false≢true t)
 
--- a buffer has room for the answers where it has as many threes as the list has fives
+-- a buffer has room for the answers exactly if it has at least as many groups of three as the list has groups of five
 pub room-is : (calls room : List ℤ) → areCalls calls ≡ true
     → hasRoom calls room ≡ leb (length calls / callSize) (length room / answerSize)
 unfolding hasRoom
@@ -148,7 +148,7 @@ unfolding kindOf
 kind-above (pos n) h = rw (lt-leb n 65535 (ltb-true 65535 n h))
 kind-above (negsuc n) h = refl
 
--- a number of sixteen bits is cast to one, and is itself
+-- a number in 0..65535 can be cast to sixteen bits, and keeps its value
 pub record IsKindNumber (z : ℤ) : Type 0 where
   pub casts : T (nonNeg z) × Fits w16 (natAbs z)
   pub same : natAbs z ≡ kindOf z

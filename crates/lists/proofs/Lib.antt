@@ -1,4 +1,4 @@
--- Laws of a list of calls as numbers and of answers as numbers; where a list starts; the calls made one after the other; and demand 3.
+-- Laws of calls as numbers and of answers as numbers, of the start of a list, of calls made one after the other, and demand 3.
 pub mod Decoding
 pub mod Numbers
 pub mod Starting

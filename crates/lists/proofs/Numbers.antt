@@ -1,4 +1,4 @@
--- Laws of answers as numbers: the three of an answer, as they are put together (`three-are`) and as they are put into a buffer.
+-- Laws of answers as numbers: the three numbers of an answer (`three-are`), and these numbers put into a buffer.
 use mathlib.Core.Path.{_≡_, refl}
 use mathlib.Core.List.{List, [], _∷_, _++_}
 use Prim.Native.Nat.{ℕ, suc, _+_, _≤_}
@@ -22,7 +22,7 @@ three-are {number} p q = λ i. number ∷ p i ∷ q i ∷ []
 
 -- ---- put into a buffer
 
--- as three stores leave them
+-- by three stores
 pub stored : (buffer : List ℤ) (place : ℕ) (said : Said)
     → SFits w64 (said .number) → SFits w64 (said .first) → SFits w64 (said .second)
     → set (set (set buffer place (toZ w64 (ofZ w64 (said .number)))) (place + 1) (toZ w64 (ofZ w64 (said .first)))) (place + 2)
@@ -42,7 +42,7 @@ length-numbers corrected = refl
 length-numbers (renewed rounds removed) = refl
 length-numbers (refused n) = refl
 
--- the buffer then, before the end of the numbers and after it
+-- the buffer with the numbers put into it: up to their end, and after it
 module _ (buffer : List ℤ) (place : ℕ) (numbers : List ℤ) (n : ℕ) (e : length numbers ≡ n) (h : place + n ≤ length buffer) where
   front : length (take place buffer ++ numbers) ≡ place + n
   front = let t = length-take-le place buffer (omega arith) in simp length-append (omega arith)

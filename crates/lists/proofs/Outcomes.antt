@@ -1,5 +1,5 @@
--- What comes of a list: nothing is run (`nothing-run`, `without-calls`, `without-room`, `without-start`), or its calls are (`with-all`);
--- and, where the program's start is the machine's, the claim (`runs-list`).
+-- What running a list gives. Nothing is run (`nothing-run`, `without-calls`, `without-room`, `without-start`), or the calls are run
+-- (`with-all`). If the program's start is the machine's, the claim holds (`runs-list`).
 use mathlib.Core.Path.{_≡_, refl, _∙_}
 use mathlib.Core.Bool.{Bool, true, false, false≢true}
 use mathlib.Core.List.{List}
@@ -85,7 +85,7 @@ module _ (p : Start) (calls room out : List ℤ) (r : Run) where
 -- ---- from the machine's start
 
 module _ (calls room out : List ℤ) (r : Run) where
-  -- what is declined for the list or the buffer is declined the same
+  -- a list that is refused because of its numbers or the buffer is refused in the same way
   past-the-tests : (listed fits : Bool) (a : Outcome State) (b : Outcome Chart)
       → (RunGivesOn b calls room out r → RunGives a calls room out r)
       → RunGivesOn (require listed (declines notCalls) (require fits (declines noRoom) b)) calls room out r

@@ -1,5 +1,5 @@
--- Laws of calls made one after the other: one call (`called`), its counts (`counted`), the call that stands at a place of the list
--- (`called-at`), and where the loop over the list stands (`At`): at its start, after one call more, and at its end.
+-- Laws of calls made one after the other: one call (`called`), its counts (`counted`), the call at a place of the list (`called-at`), and
+-- the state of the loop over the list (`At`): at its start, after one more call, and at its end.
 use mathlib.Core.Path.{_≡_, refl, sym, ap, _∙_}
 use mathlib.Core.Bool.{true}
 use mathlib.Core.List.{List, _++_, append-assoc, append-nil}
@@ -25,12 +25,12 @@ use Rattle.lists.proofs.Numbers.{length-numbers, take-sets, drop-sets}
 
 -- ---- one call
 
--- the call that was made is the one meant, and what is said is its answer
+-- the call that was made is the one that was meant, and what is said is its answer
 pub called : {c : Chart} {meant made : Call} {next : Chart} {answer : Answer} {said : Said} → meant ≡ made → Gives c made next answer
     → saidNumbers said ≡ numbersOf answer → IsCalled c meant (record { chart = next; said = said })
 called e gives says = rw e (record { chart = gives .chart; says = says ∙ ap numbersOf (gives .says) })
 
--- its counts are small, whatever the chart
+-- its counts are small, for any chart
 pub counted : (c : Chart) (call : Call) → Counted (answerTo c call)
 unfolding answerTo
 counted c call =
@@ -38,12 +38,12 @@ counted c call =
     (λ _. renewed-small (stateOf c) call)
     (λ _ rounds removed e. let z : _≡_ {A = ℕ} 0 1 = cc in absurd (omega arith))
 
--- the call that stands at a place, and its answer put into the buffer
+-- the call at a place, and its answer put into the buffer
 pub called-at : {c : Chart} {numbers : List ℤ} {at : ℕ} {room : List ℤ} {place : ℕ} {out : List ℤ} {r : Called}
     → IsCalled c (callAt numbers at) r → out ≡ sets room place (saidNumbers (r .said)) → IsCalledAt c numbers at room place out (r .chart)
 called-at {room = room} {place = place} made put = record { chart = made .chart; buffer = put ∙ ap (sets room place) (made .says) }
 
--- ---- where the loop stands: the calls before `at` are made, and their answers stand before `place`
+-- ---- the state of the loop: the calls before `at` are made, and their answers stand before `place`
 pub record At (calls room : List ℤ) (start : Chart) (answers : List ℤ) (chart : Chart) (at place : ℕ) : Type 0 where
   pub within : at ≤ length calls
   pub are-calls : areCalls (drop at calls) ≡ true

@@ -1,5 +1,5 @@
--- Laws of where a list starts: what building and reading answer, as a chart and the number of a refusal. That number is never 0
--- (`building-number`, `reading-number`), so 0 says that there is a start.
+-- Laws of the start of a list: what building and reading answer, as a chart and the number of a refusal. A refusal's number is never 0
+-- (`building-number`, `reading-number`), so 0 means that there is a start.
 use mathlib.Core.Path.{_≡_, refl, sym, ap, _∙_}
 use mathlib.Core.List.{List}
 use Prim.Native.Nat.{ℕ, zero, suc, _≤_}

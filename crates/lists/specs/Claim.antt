@@ -12,8 +12,8 @@ use Rattle.chart.specs.declared.Chart.{Chart}
 use Rattle.chart.specs.Chart.{stateOf, chartOf}
 use Rattle.chart.specs.Soundness.{soundChart}
 
--- From the machine's start s, after the calls: the program has the chart `chart`, its calls answered `said`, and lines asked of that chart
--- `lines`. "The machine is fed its start and what the calls bring, never the program's chart or answers."
+-- The machine starts from s. After the calls the program has the chart `chart`. Its calls answered `said`, and lines asked of that chart
+-- answered `lines`. "The machine is fed its start and what the calls bring, never the program's chart or answers."
 pub record Claim (s : State) (calls : List Call) (chart : Chart) (said : List Answer) (lines : ChartLinesAnswer) : Type 0 where
   -- chart kind, base, series, status and open verdict are the machine's, and unused places hold 0
   pub same-chart : chart ≡ chartOf (after s calls)
@@ -21,9 +21,9 @@ pub record Claim (s : State) (calls : List Call) (chart : Chart) (said : List An
   pub same-answers : said ≡ answers s calls
   -- the chart is sound
   pub sound : soundChart chart ≡ true
-  -- at least ten base words stand
+  -- the base has at least ten words
   pub ten : baseLeast ≤ length (stateOf chart .base)
   -- lines are answered ..
   pub answered : lines ≡ linesGiven (linesOf (limitsFor (after s calls)))
-  -- .. each line's double is the paper's and within 1/256, and each limit's judges every word as the exact limit does
+  -- .. each line's double is the paper's, less than 1/256 from the exact value. A limit's double judges every word as the exact limit does
   pub doubles : AnswersLineDoubles (limitsFor (after s calls)) lines

@@ -21,7 +21,7 @@ answerSize = 3
 unfoldable pub isCallNumber : ℤ → Bool
 isCallNumber z = leZ (pos 1) z && leZ z (pos 4)
 
--- a kind of sixteen bits is itself. Any other number is no chart's kind, and stands as 0, which is none either
+-- a number in 0..65535 is itself the kind. Any other number is not a chart's kind. It becomes 0, which is not one either
 unfoldable pub kindOf : ℤ → ℕ
 kindOf (pos n) = choose (leb n 65535) n 0
 kindOf (negsuc n) = 0
@@ -30,8 +30,8 @@ unfoldable pub isNumber : ℕ → ℤ → Bool
 isNumber n (pos k) = eqb k n
 isNumber n (negsuc k) = false
 
--- the call of this number: 1, 2, 3, or else a renewal, which is 4 where the numbers are calls. What a correction or a renewal has beside
--- it is not looked at
+-- the call with this number: 1, 2, 3, or else a renewal. If the numbers are calls (`areCalls`), a renewal has the number 4. A correction
+-- and a renewal ignore the other four numbers
 unfoldable pub callOf : (number : ℤ) (kind : ℕ) (a b c : ℤ) → Call
 callOf number kind a b c =
     choose (isNumber 1 number) (post kind a b c)
@@ -39,7 +39,7 @@ callOf number kind a b c =
     (choose (isNumber 3 number) correction
     renewal))
 
--- the numbers are calls: five to each, with the number of a call first
+-- the numbers are calls: each call has five numbers, and the call's number comes first
 unfoldable pub areCalls : List ℤ → Bool
 areCalls [] = true
 areCalls (number ∷ kind ∷ a ∷ b ∷ c ∷ rest) = isCallNumber number && areCalls rest
@@ -48,7 +48,7 @@ areCalls (number ∷ kind ∷ []) = false
 areCalls (number ∷ kind ∷ a ∷ []) = false
 areCalls (number ∷ kind ∷ a ∷ b ∷ []) = false
 
--- these calls
+-- the calls that the numbers stand for
 unfoldable pub callsIn : List ℤ → List Call
 callsIn [] = []
 callsIn (number ∷ kind ∷ a ∷ b ∷ c ∷ rest) = callOf number (kindOf kind) a b c ∷ callsIn rest
@@ -78,6 +78,6 @@ allNumbersOf (answer ∷ answers) = numbersOf answer ++ allNumbersOf answers
 unfoldable pub hasRoom : List ℤ → List ℤ → Bool
 hasRoom calls buffer = leb (answerSize * length (callsIn calls)) (length buffer)
 
--- the answers at the front of the buffer, and all after them as it was
+-- the buffer with the answers at its front. The numbers after them do not change
 unfoldable pub withAnswers : List Answer → List ℤ → List ℤ
 withAnswers said buffer = allNumbersOf said ++ drop (length (allNumbersOf said)) buffer

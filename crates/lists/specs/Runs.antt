@@ -1,5 +1,5 @@
--- What running an encoded list gives: the claim, or a refusal. Document 01 has no encoded list, so what a list is declined for besides
--- its start has no number of the paper's.
+-- What running an encoded list gives: the claim, or a refusal. Document 01 has no encoded lists. So a list that is refused for another
+-- reason than its start has no number of the paper's.
 use mathlib.Core.Path.{_≡_}
 use mathlib.Core.List.{List, [], _∷_}
 use Prim.Native.Nat.{ℕ, zero, suc, _+_, _≤_}
@@ -25,9 +25,9 @@ use Rattle.lists.specs.declared.answers.Said.{Said}
 use Rattle.lists.specs.Encoding.{kindOf, callOf, areCalls, callsIn, hasRoom, numbersOf, withAnswers}
 use Rattle.lists.specs.Claim.{Claim}
 
--- ---- what comes of a list
+-- ---- the answer to a list
 
--- the list was run; building or reading declined its start, by this number; the numbers are no list; the buffer has no room for the answers
+-- the list was run; building or reading refused its start with this number; the numbers are not a list; the buffer has no room
 pub data RunSaid : Type 0 where
   done : RunSaid
   startRefused : ℕ → RunSaid
@@ -40,35 +40,35 @@ runSays (run.StartRefused n) = startRefused n
 runSays run.NotCalls = notCalls
 runSays run.NoRoom = noRoom
 
--- it is run from this start, or declined
+-- the list is run from this start, or it is refused
 pub data Outcome (A : Type 0) : Type 0 where
   runs : A → Outcome A
   declines : RunSaid → Outcome A
 
--- numbers that are no list are declined first, then a buffer without room for all answers, and then a start that is declined
+-- the order of the refusals: first numbers that are not a list, then a buffer without room for all answers, then a refused start
 unfoldable pub outcomeOf : {A : Type 0} → (start : Outcome A) (calls before : List ℤ) → Outcome A
 outcomeOf start calls before = require (areCalls calls) (declines notCalls) (require (hasRoom calls before) (declines noRoom) start)
 
--- the machine's start, or the number by which building or reading declined
+-- the machine's start, or the number with which building or reading refused
 unfoldable pub machineStart : guide.Start → Outcome State
 machineStart (guide.begun s) = runs s
 machineStart (guide.declined n) = declines (startRefused n)
 
--- `before` and `after` are the numbers of the lent buffer before the list and after it.
--- A list that is run: the claim of its chart, its answers and its lines, and the answers at the front of the buffer
+-- a list that is run: the claim holds for its chart, its answers and its lines, and the answers stand at the front of the buffer. `before`
+-- and `after` are the numbers of the lent buffer before the list and after it
 pub record Ran (s : State) (calls : List Call) (before after : List ℤ) (r : Run) : Type 0 where
   pub says : runSays (r .answer) ≡ done
   pub said : List Answer
   pub claim : Claim s calls (r .chart) said (linesAnswerSays (r .lines))
   pub buffer : after ≡ withAnswers said before
 
--- nothing is run: the chart of zeros, of which there are no lines
+-- nothing is run: the chart is the chart of zeros, and its lines are refused
 pub record NothingRun (answer : RunSaid) (r : Run) : Type 0 where
   pub says : runSays (r .answer) ≡ answer
   pub chart : r .chart ≡ zeroChart
   pub lines : linesAnswerSays (r .lines) ≡ refused 14
 
--- a list that is declined: every number of the buffer is as it was
+-- a list that is refused: no number of the buffer changes
 pub record Declined (answer : RunSaid) (before after : List ℤ) (r : Run) : Type 0 where
   pub nothing : NothingRun answer r
   pub buffer : after ≡ before
@@ -81,9 +81,9 @@ RunGives (declines answer) calls before after r = Declined answer before after r
 abbrev pub RunsList : guide.Start → (calls before after : List ℤ) → Run → Type 0
 RunsList start calls before after r = RunGives (outcomeOf (machineStart start) calls before) calls before after r
 
--- ---- what the functions within give
+-- ---- what the internal functions give
 
--- the program's start: the machine's, with 0 for a number; or the number of a refusal, which is not 0, with the chart of zeros
+-- the program's start: the chart of the machine's start and 0, or the chart of zeros and the number of a refusal, which is not 0
 pub record Begins (s : State) (start : Start) : Type 0 where
   pub chart : start .chart ≡ chartOf s
   pub refusal : start .refusal ≡ 0
@@ -129,7 +129,7 @@ callAt calls at =
 unfoldable pub saidNumbers : Said → List ℤ
 saidNumbers s = s .number ∷ s .first ∷ s .second ∷ []
 
--- the counts that an answer may hold: a renewal rejects from 15 words, and each of its rounds but the last removes one or more
+-- the counts in an answer are small: a renewal rejects from 15 words, and each of its rounds but the last removes one or more
 abbrev pub Counted : Answer → Type 0
 Counted answer = (rounds removed : ℕ) → answer ≡ renewed rounds removed → (rounds ≤ suc baseWanted) × (removed ≤ baseWanted)
 

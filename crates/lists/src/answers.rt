@@ -66,7 +66,7 @@ pub fn said_by_correction(answer: CorrectionAnswer) -> Said
     }
 }
 
-// The counts of a renewal are small, and so keep their value in a number with a sign.
+// The counts of a renewal are small, so they keep their value as signed numbers.
 pub fn said_by_renewal(answer: RenewalAnswer) -> Said
     requires { ⌜ Counted (renewalSays answer) ⌝ }
     ensures { λ r. ⌜ saidNumbers r ≡ numbersOf (renewalSays answer) ⌝ }
@@ -81,7 +81,7 @@ pub fn said_by_renewal(answer: RenewalAnswer) -> Said
     }
 }
 
-// The three numbers, from a place of the buffer on.
+// Puts the three numbers into the buffer from a place on.
 pub fn put_answer(answers: &mut [i64], place: usize, said: Said)
     requires { ⌜ place + answerSize ≤ length (now answers) ⌝ }
     ensures { λ _. ⌜ now (answers .exit) ≡ sets (now (answers .entry)) place (saidNumbers said) ⌝ }

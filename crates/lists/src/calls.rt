@@ -1,4 +1,4 @@
-// The calls of a list: whether numbers are a list, and the call that stands at a place of it.
+// The calls of a list: the test whether numbers are a list, and the call at a place of it.
 use crate::answers::Said;
 use crate::answers::put_answer;
 use crate::answers::said_by_correction;
@@ -21,7 +21,7 @@ pub struct Called {
     pub said: Said,
 }
 
-// Five numbers to each call, the first of which is the call's number.
+// Whether the numbers are a list. Each call has five numbers, and the call's number comes first.
 pub fn are_calls(numbers: &[i64]) -> bool
     ensures { λ r. ⌜ r ≡ areCalls (now (numbers .entry)) ⌝ }
 {
@@ -41,7 +41,7 @@ fn is_call_number(number: i64) -> bool
     (1 <= number) & (number <= 4)
 }
 
-// The call that stands at a place of the list is made, and its answer is put into the buffer.
+// Makes the call at a place of the list, and puts its answer into the buffer.
 pub fn call_at(chart: Chart, calls: &[i64], at: usize, answers: &mut [i64], place: usize) -> Chart
     requires { ⌜ (at + callSize ≤ length (now calls)) × (place + answerSize ≤ length (now answers)) ⌝ }
     ensures { λ r. ⌜ IsCalledAt chart (now (calls .entry)) at (now (answers .entry)) place (now (answers .exit)) r ⌝ }
@@ -57,7 +57,7 @@ pub fn call_at(chart: Chart, calls: &[i64], at: usize, answers: &mut [i64], plac
     next
 }
 
-// A number of sixteen bits is itself. Any other is no chart's kind, and stands as 0, which is none either.
+// A number in 0..65535 is itself the kind. Any other number is not a chart's kind. It becomes 0, which is not one either.
 fn kind_of(number: i64) -> u16
     ensures { λ r. ⌜ r ≡ kindOf number ⌝ }
 {

@@ -1,12 +1,13 @@
-// Whole lists of calls: document 01, "Lists". A chart is built from words or read from bytes, each call takes the chart that the call
-// before it gave back, and lines are asked of the chart after the last.
+// Whole lists of calls: document 01, "Lists". A chart is built from words or read from bytes. Each call takes the chart that the call
+// before it gave back. Lines are asked of the chart after the last call.
 //
-// A list is numbers, five to a call: 1 post, 2 reanalysis, 3 correction or 4 renewal; then a kind and three numbers, which a correction
-// and a renewal do not look at. An answer is three numbers: the call's number and word and verdict (1), word and 1 for passed or 0 for
-// failed (2), 0 and 0 (3), rounds and number removed (4); or 0, the number of the refusal and 0.
+// A list is numbers, five to a call. The first is the call's number: 1 post, 2 reanalysis, 3 correction, 4 renewal. A kind and three
+// numbers follow. A correction and a renewal ignore these. An answer is three numbers. The first is the call's number, and the other two
+// are word and verdict (1), word and 1 for passed or 0 for failed (2), 0 and 0 (3), rounds and number removed (4). A refusal is 0, its
+// number and 0.
 //
-// In this order, numbers that are no list, a buffer without room for all answers, and a start that building or reading declines are
-// declined. Then nothing is run: the buffer is as it was, and the chart of zeros comes, of which there are no lines.
+// A list is refused in three cases, in this order: the numbers are not a list; the buffer has no room for all answers; building or reading
+// refuses the start. Then nothing is run: the buffer does not change, and the chart is the chart of zeros, which has no lines.
 mod answers;
 mod calls;
 
@@ -30,9 +31,9 @@ ghost use Rattle.lists.specs.Runs.{RunsList, IsStart, RunsFrom, RunsCall
 pub enum RunAnswer {
     // The list was run, and its answers stand in the buffer.
     Done,
-    // Building or reading declined, by this number.
+    // Building or reading refused, with this number.
     StartRefused(u16),
-    // The numbers are no list of calls.
+    // The numbers are not a list of calls.
     NotCalls,
     // The buffer has no room for the answers.
     NoRoom,
@@ -91,7 +92,7 @@ fn start_of_bytes(bytes: &[u8]) -> Start
     }
 }
 
-// Runs the list, unless something is declined.
+// Runs the list, unless it is refused.
 fn run_from(start: Start, calls: &[i64], answers: &mut [i64]) -> Run
     ensures { λ r. ⌜ RunsFrom start (now (calls .entry)) (now (answers .entry)) (now (answers .exit)) r ⌝ }
 {
@@ -114,7 +115,7 @@ fn run_from(start: Start, calls: &[i64], answers: &mut [i64]) -> Run
     }
 }
 
-// What comes where nothing is run.
+// The result if nothing is run.
 fn not_run(answer: RunAnswer) -> Run
     ensures { λ r. ⌜ NothingRun (runSays answer) r ⌝ }
 {

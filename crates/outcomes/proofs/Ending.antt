@@ -1,6 +1,6 @@
--- Laws of what a command on a file comes to: with a fault (`ends-in-fault`), and on a chart, where the chart after it was written
--- (`ends-written`) and where writing was declined (`ends-declined`); what a command starts from (`start-taken`,
--- `start-declined`, `start-without`, `start-with`); how many bytes the form and the text have (`and-counted`).
+-- Laws of what a command on a file comes to: a fault (`ends-in-fault`), a chart that was written (`ends-written`), a chart whose writing
+-- was refused (`ends-declined`). Laws of what a command starts from: `start-taken`, `start-declined`, `start-without`, `start-with`. The
+-- lengths of the form and of the text: `and-counted`.
 use mathlib.Core.Path.{_≡_, refl, sym, ap, _∙_}
 use mathlib.Core.Bool.{Bool, true, false}
 use mathlib.Core.List.{List, [], _++_}
@@ -41,7 +41,7 @@ use Rattle.outcomes.specs.OnFile.{Held, onChart, fault, noCommand, start
 none-put : (buffer : List ℕ) → PutInFront [] buffer buffer 0
 none-put buffer = record { buffer = refl; counted = refl }
 
--- a text for which there is room is put whole
+-- if there is room for a text, all of it is put
 in-front : {before after : List ℕ} {size : ℕ} (text : List ℕ) → length text ≤ length before → Puts before 0 text after size
     → PutInFront text before after size
 in-front {before} text room puts =
@@ -89,7 +89,7 @@ put-in-front c before after n w =
     let size = written-facts c before after n w .1 .1 in
     record { buffer = written-after c before after n w ∙ rw size; counted = size }
 
--- what writing declines, and why
+-- why writing was refused: the chart is not sound, or the buffer is too short
 declined-by : (whole room : Bool) (size n : ℕ) → form.refused n ≡ require whole (form.refused 14) (require room (form.refused 15) (wrote size))
     → (P : Type 0) → (whole ≡ false → n ≡ 14 → P) → (whole ≡ true → room ≡ false → n ≡ 15 → P) → P
 declined-by true true size n e P unsound short = let z : _≡_ {A = ℕ} 0 1 = cc in absurd (omega arith)
@@ -103,7 +103,7 @@ module _ (c : Chart) (held line : List ℕ) {out out′ : List ℕ} (a : Answere
   abbrev answers : Answers c (lineIn line) out out′ a
   answers = all .0
 
-  -- the ending, by the chart that was written
+  -- the ending, by the chart that the command answered
   by-chart : (room : ℕ) → ending (onChart c held) line room ≡ keeping (a .chart) held room (answerToLine c (lineIn line))
   by-chart room = rw (← answers .chart)
 
@@ -137,7 +137,7 @@ module _ (c : Chart) (held line : List ℕ) {out out′ : List ℕ} (a : Answere
       rw (by-chart (length before) ∙ no-room (a .chart) held text (length before) sound short, same)
       (record { outcome = decided ∙ rw e; form = none-put before; text = answers .text; whole = all .1 }))
 
--- ---- what a file's bytes start from
+-- ---- what a command starts from
 
 module _ (held : List ℕ) (r : ReadChart) (is : IsRead (reading held) r) where
   pub start-taken : r .answer ≡ read.Done → startRead held (reading held) ≡ onChart (r .chart) held
@@ -163,7 +163,7 @@ module _ (held : Held) (line : List ℕ) {answer : Bool} (tested : answer ≡ ha
   unfolding startOf
   start-with t = rw (← tested, t)
 
--- ---- how many bytes
+-- ---- the lengths of the form and of the text
 
 pub and-counted : {e : Ending} {before after out out′ : List ℕ} {r : OnFile} → Ends e before after out out′ r
     → Ends e before after out out′ r × (Counts (r .form) after × Counts (r .size) out′)

@@ -1,6 +1,7 @@
--- What a command on a file comes to keeps every chart: the form to keep is that of the chart after the command, and reading it gives that chart
--- (`kept-form`, `kept-read`); where the file is to stay and that chart is sound, it holds that form already (`nothing-lost`); and a command that may not change the
--- chart never asks for a new form, so it needs no lock (`only-read`). A buffer of 814 bytes has room for every form (`room-enough`).
+-- A command on a file loses no chart. The new bytes of a changed file are the stored form of the chart after the command (`kept-form`), and
+-- reading them gives that chart (`kept-read`). A file that does not change holds that form already, if that chart is sound
+-- (`nothing-lost`). A command that may not change the chart never changes the file, so it needs no lock (`only-read`). A buffer of 814
+-- bytes has room for every form (`room-enough`).
 use mathlib.Core.Path.{_≡_, refl, sym, ap, _∙_}
 use mathlib.Core.Bool.{Bool, true, false, false≢true}
 use mathlib.Core.List.{List, []}
@@ -31,7 +32,7 @@ use Rattle.outcomes.specs.Naming.{hasCommand, mayChange}
 use Rattle.outcomes.specs.OnFile.{Held, noFile, bytes, Start, onChart, fault, startRead, startFrom, startOf, ofForm, Ending, keeping, ending, formMost}
 use Rattle.outcomes.proofs.Named.{only-reads, builds}
 
--- two outcomes are told apart
+-- numbers tell the outcomes apart
 abbrev number : Outcome → ℕ
 number outcome.Answered = 0
 number outcome.Changed = 1
@@ -75,7 +76,7 @@ module _ (after : Chart) (held : List ℕ) (room : ℕ) (text : List ℕ) where
       (λ t e. same-equal held (storedForm (stateOf after)) t)
       (λ t e. let z : _≡_ {A = ℕ} 1 0 = ap number (rw t at e) in absurd (omega arith))
 
-  -- where the file is to stay, a sound chart's form is what it holds
+  -- a file that does not change holds the form already, if the chart is sound
   pub nothing-lost : keeping after held room text .outcome ≡ outcome.Answered → soundChart after ≡ true → held ≡ storedForm (stateOf after)
   nothing-lost =
       by-cases (λ (e : Ending). e .outcome ≡ outcome.Answered → soundChart after ≡ true → held ≡ storedForm (stateOf after))
@@ -99,12 +100,12 @@ module _ (after : Chart) (held : List ℕ) (room : ℕ) (text : List ℕ) where
 
 -- ---- a command that may not change the chart
 
--- what is held are bytes: each is below 256
+-- what the file holds are bytes: each is below 256
 abbrev pub HoldsBytes : Held → Type 0
 HoldsBytes noFile = Unit {0}
 HoldsBytes (bytes held) = AreBytes held
 
--- the chart that was read is kept as the bytes that it was read from
+-- a chart that was read has the form that it was read from, so the file does not change
 read-stays : (held : List ℕ) → AreBytes held → (s : State) → reading held ≡ taken s → (room : ℕ) (text : List ℕ)
     → keeping (chartOf s) held room text .outcome ≡ outcome.Changed → ⊥
 unfolding ofForm
@@ -123,7 +124,7 @@ module _ (line : List ℕ) (leaves : mayChange line ≡ false) (room : ℕ) wher
       read-stays held are s e room _ (rw (only-reads line leaves) at changed)
   by-reading held are (refused n) e changed = let z : _≡_ {A = ℕ} 2 1 = ap number changed in omega arith
 
-  -- where there is no file, it is not `build`
+  -- if there is no file: the command is not `build`, because `build` may change the chart
   started : (held : Held) → HoldsBytes held → ending (startFrom held line) line room .outcome ≡ outcome.Changed → ⊥
   started noFile are =
       by-test (isBuild line)
@@ -131,7 +132,7 @@ module _ (line : List ℕ) (leaves : mayChange line ≡ false) (room : ℕ) wher
       (λ t changed. let z : _≡_ {A = ℕ} 2 1 = ap number (rw t at changed) in omega arith)
   started (bytes held) are = by-reading held are (reading held) refl
 
-  -- whether there is a file or not
+  -- with or without a file, and with or without a command in the line
   pub only-read : (held : Held) → HoldsBytes held → ending (startOf held line) line room .outcome ≡ outcome.Changed → ⊥
   unfolding startOf
   only-read held are =

@@ -1,4 +1,4 @@
--- Laws of a line's name, of exit statuses, and of what a command on a file comes to.
+-- Laws of the name in a line, of exit statuses, and of what a command on a file comes to.
 pub mod Named
 pub mod Statuses
 mod Ending

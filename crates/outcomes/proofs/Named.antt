@@ -1,6 +1,6 @@
--- Laws of the name in a line: a line without a command is passed over (`no-command`), a command that may not change the chart leaves it
--- (`only-reads`), and `build` may change it (`builds`). The rest is what the functions of `names` find: by the first field (`no-field`,
--- `a-field`), and by the names that a match does not tell (`leaves`, `some-name`).
+-- Laws of the name in a line. A line without a command is passed over, unless it is too long (`no-command`). A command that may not change
+-- the chart leaves it as it is (`only-reads`). `build` may change it (`builds`). The other laws are about the functions of `names`: about
+-- the first field (`no-field`, `a-field`), and about the names in the last arm of a match (`leaves`, `some-name`).
 use mathlib.Core.Path.{_≡_, refl, ap}
 use mathlib.Core.Bool.{true, false, not}
 use mathlib.Core.List.{List, [], _∷_}
@@ -40,7 +40,7 @@ no-command text e short = rw (le-leb (length text) lineMost short) (none-passed 
 
 -- ---- what becomes of the chart
 
--- a command by its name, without a fault and with one
+-- a command without a fault, by its name, and then one that may have a fault
 command-reads : (n : Name) (fields : List (List ℕ)) (c : Chart) → changes n ≡ false → chartAfterLine c (commandFor n fields) ≡ c
 unfolding commandFor chartAfterCommand
 command-reads name.Word fields c e = refl
@@ -96,7 +96,7 @@ module _ {text : List ℕ} {start end : ℕ} (field : IsFirstField text start en
       let some : start < end = omega (arith, field .ordered) in
       rw (one-found field some, comment-found field some)
 
--- the names that stand in the `_` of a match, by their numbers in the enum
+-- the names that the arm `_` of a match covers, by their numbers in the enum
 
 abbrev leaving : List ℕ
 leaving = 0 ∷ 6 ∷ 7 ∷ 9 ∷ 10 ∷ []

@@ -1,6 +1,6 @@
--- The exit status that the text of an answer gives is the one by what the command came to, whatever the chart and the line
--- (`status-of-line`): 3 for a fault (`status-fault`), 2 for a refusal (`status-refused`), 1 for a verdict other than 0 and for a failed
--- reanalysis (`status-judged`, `status-reanalysed`), and 0 for all else.
+-- The exit status found in the text of an answer is that of the command's result, for every chart and every line (`status-of-line`). It is
+-- 3 for a fault (`status-fault`), 2 for a refusal (`status-refused`), 1 for a verdict other than 0 and for a failed reanalysis
+-- (`status-judged`, `status-reanalysed`), and 0 for everything else.
 use mathlib.Core.Path.{_≡_, refl, ap, _∙_}
 use mathlib.Core.Bool.{Bool, true, false}
 use mathlib.Core.List.{List, [], _∷_, _++_, append-assoc}
@@ -97,19 +97,19 @@ status-chart s = refl
 
 -- ---- answers that begin with a word
 
--- the texts at the end that hold a batch
+-- the ends of a text that hold a batch
 abbrev failedEnd : List ℕ
 failedEnd = ascii " failed" ++ (10 ∷ [])
 
 abbrev verdictEnd : ℕ → List ℕ
 verdictEnd v = ascii " verdict " ++ (digit v ∷ 10 ∷ [])
 
--- the end alone decides
+-- the front of the text is a word, so only the end decides
 behind-word : (w : ℤ) (end : List ℕ) → statusOf (wordText w ++ end) ≡ choose (holdsByEnd (wordText w ++ end)) 1 0
 unfolding wordText statusOf holdsBatch begins sameBytes
 behind-word w end = refl
 
--- an end that is as long as the longest of them
+-- an end at least as long as the longest of those texts: what stands before it plays no part
 holds-behind : (x y : List ℕ) → 11 ≤ length y → holdsByEnd (x ++ y) ≡ holdsByEnd y
 unfolding holdsByEnd
 holds-behind x y h =
@@ -121,7 +121,7 @@ holds-behind x y h =
       ends-behind x y (verdictEnd 4) (omega arith),
     )
 
--- an end that is no longer than the shortest of them, in which none of them ends
+-- an end no longer than the shortest of those texts, in which none of them ends, holds no batch
 holds-unlike : (x y : List ℕ) → length y ≤ 8 → ends failedEnd y ≡ false → ((v : ℕ) → ends (verdictEnd v) y ≡ false)
     → holdsByEnd (x ++ y) ≡ false
 unfolding holdsByEnd
@@ -171,7 +171,7 @@ pub status-reanalysed : (w : ℤ) (passed : Bool) → statusOf (answerText (rean
 status-reanalysed w true = rw (append-assoc (wordText w)) (behind-word w _ ∙ rw (passed-free (wordText w)))
 status-reanalysed w false = rw (append-assoc (wordText w)) (behind-word w _ ∙ rw (failed-holds (wordText w)))
 
--- a word alone: the end is one digit behind `word `, or two digits
+-- a word alone: the end is `word ` and one digit, or two digits
 last-digit-ind : (P : List ℕ → Type 0) (n : ℕ) → ((x : List ℕ) (d : ℕ) → d < 10 → P (x ++ (digit d ∷ []))) → P (decimal n)
 last-digit-ind P n f =
     by-test (ltb n 10)
@@ -218,7 +218,7 @@ word-free (negsuc n) =
 pub status-word : (w : ℤ) → statusOf (wordText w ++ (10 ∷ [])) ≡ 0
 status-word w = behind-word w (10 ∷ []) ∙ rw (word-free w)
 
--- ---- what the commands came to
+-- ---- the commands' results
 
 -- the verdict that a call answers is at most 4
 abbrev VerdictWithin : Answer → Type 0

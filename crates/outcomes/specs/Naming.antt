@@ -1,4 +1,4 @@
--- What the name in a line says before the command is done.
+-- What the name in a line says before its command is done: whether there is a command, and whether it may change the chart.
 use mathlib.Core.Bool.{Bool, true, false, not}
 use mathlib.Core.List.{List, [], _∷_}
 use Prim.Native.Nat.{ℕ}
@@ -11,7 +11,7 @@ abbrev pub isCommand : List (List ℕ) → Bool
 isCommand [] = false
 isCommand (first ∷ fields) = not (isComment first)
 
--- the line is not passed over (`no-command` in `proofs/Named`)
+-- the line has a command. A line without one is passed over, unless it is too long (`no-command` in `proofs/Named`)
 unfoldable pub hasCommand : List ℕ → Bool
 hasCommand line = isCommand (fieldsOf line)
 
@@ -19,7 +19,7 @@ hasCommand line = isCommand (fieldsOf line)
 unfoldable pub nameOf : List ℕ → Name
 nameOf line = nameIn (firstField (fieldsOf line))
 
--- the commands that may change the chart; the others leave it (`only-reads` in `proofs/Named`)
+-- the commands that may change the chart; the others leave it as it is (`only-reads` in `proofs/Named`)
 abbrev pub changes : Name → Bool
 changes name.Build = true
 changes name.Post = true

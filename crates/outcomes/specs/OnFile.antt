@@ -1,6 +1,6 @@
--- One command on the chart in a file: from the bytes that the file held and the command's line to what becomes of the file and what is said.
--- `proofs/Files` has that the bytes to keep are those of the chart after the command, and that where none are to be kept the file has the bytes
--- of that chart already, if it is sound; a refused build where there is no file leaves none.
+-- One command on the chart in a file. The file's bytes and the command's line decide what becomes of the file, and what is said.
+-- `proofs/Files` proves: the bytes of a changed file are the stored form of the chart after the command. A file that does not change holds
+-- that form already, if that chart is sound. A refused build makes no file.
 use mathlib.Core.Path.{_≡_}
 use mathlib.Core.Bool.{Bool, true, false}
 use mathlib.Core.List.{List, []}
@@ -25,22 +25,22 @@ use Rattle.outcomes.specs.Naming.{hasCommand}
 
 -- ---- what a command starts from
 
--- there is no file, or it held these bytes
+-- there is no file, or it holds these bytes
 pub data Held : Type 0 where
   noFile : Held
   bytes : List ℕ → Held
 
--- as the program has it: whether there is a file, and bytes
+-- the program has it as two values: whether there is a file, and its bytes
 abbrev pub heldIn : Bool → List ℕ → Held
 heldIn true held = bytes held
 heldIn false held = noFile
 
--- a chart, for which these bytes stand in the file; or a fault, by its number
+-- a chart, and the bytes that the file holds for it; or a fault, by its number
 pub data Start : Type 0 where
   onChart : Chart → List ℕ → Start
   fault : ℕ → Start
 
--- faults of this program's own; 13 and 14 are reading's
+-- the faults that are not refusals of reading; those are 13 and 14
 abbrev pub noCommand : ℕ
 noCommand = 1
 
@@ -51,7 +51,7 @@ abbrev pub startRead : List ℕ → ReadingAnswer → Start
 startRead held (taken s) = onChart (chartOf s) held
 startRead held (refused n) = fault n
 
--- `build` makes a file where there is none; on a file that holds no chart it is declined, as every command is
+-- `build` makes the file if there is none. If the file holds no sound chart, every command ends in a fault, also `build`
 abbrev pub startFrom : Held → List ℕ → Start
 startFrom noFile line = choose (isBuild line) (onChart zeroChart []) (fault noSuchFile)
 startFrom (bytes held) line = startRead held (reading held)
@@ -59,17 +59,17 @@ startFrom (bytes held) line = startRead held (reading held)
 unfoldable pub startOf : Held → List ℕ → Start
 startOf held line = require (hasCommand line) (fault noCommand) (startFrom held line)
 
--- ---- what it comes to
+-- ---- what the command comes to
 
--- the file is changed only where the form is another than it holds
+-- the file is changed only if it does not hold this form already
 unfoldable pub ofForm : List ℕ → List ℕ → Outcome
 ofForm held form = choose (sameBytes held form) outcome.Answered outcome.Changed
 
--- by the number with which writing declines: 14, nothing is to be kept; 15, there is no room
+-- writing was refused with this number: 14, there is nothing to keep; 15, there is no room
 unfoldable pub notWritten : ℕ → Outcome
 notWritten n = choose (eqb n 14) outcome.Answered outcome.NoRoom
 
--- what is wrong with the file, and what to do
+-- what is wrong, and what to do
 unfoldable pub faultText : ℕ → List ℕ
 faultText n =
     choose (eqb n noCommand) (ascii "missing command; control_chart help lists the commands")
@@ -84,8 +84,8 @@ pub record Ending : Type 0 where
   pub form : List ℕ
   pub text : List ℕ
 
--- the chart after the command, kept in a buffer of so many bytes: the stored form of a sound chart where there is room for it, and nothing of a
--- chart that is not sound, as that of zeros, which a refused build leaves
+-- what is kept of the chart after the command, in a buffer of `room` bytes: the stored form of a sound chart, if there is room for it. A
+-- chart that is not sound is not kept. The chart of zeros is one: a refused build leaves it if there was no file
 abbrev pub keeping : Chart → List ℕ → ℕ → List ℕ → Ending
 keeping after held room text =
     let form = storedForm (stateOf after) in
@@ -97,7 +97,7 @@ abbrev pub ending : Start → List ℕ → ℕ → Ending
 ending (onChart c held) line room = keeping (chartAfterLine c (lineIn line)) held room (answerToLine c (lineIn line))
 ending (fault n) line room = record { outcome = outcome.Fault; form = []; text = faultText n }
 
--- the contract: the outcome, every byte of both buffers, and how many of them are the form and the text
+-- the contract: the outcome, every byte of both buffers, and the lengths of the form and of the text
 pub record Ends (e : Ending) (before after out out′ : List ℕ) (r : OnFile) : Type 0 where
   pub outcome : r .outcome ≡ e .outcome
   pub form : PutInFront (e .form) before after (r .form)
@@ -109,6 +109,6 @@ pub record Ends (e : Ending) (before after out out′ : List ℕ) (r : OnFile) :
 abbrev pub formMost : ℕ
 formMost = 814
 
--- n counts bytes at the front of a buffer, in the words of the kit's `io`, by which such bytes are lent without a proof
+-- n bytes at the front of a buffer. Stated as the kit's `io` states it: such bytes are then lent without a further proof
 abbrev pub Counts : ℕ → List ℕ → Type 0
 Counts n buffer = (n ≤ length buffer) × (n ≡ length (take n buffer))

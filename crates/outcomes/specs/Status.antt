@@ -1,5 +1,5 @@
--- The exit status of an answer, for scripts: only 0 lets a batch go. The program finds it by the answer's text (`statusOf`). `proofs/Statuses`
--- has that it is the status by what the command came to (`statusTo`), whatever the chart and the line.
+-- The exit status of an answer, for scripts: only 0 lets a batch go. The program finds it in the answer's text (`statusOf`).
+-- `proofs/Statuses` proves that it is the status of the command's result (`statusTo`), for every chart and every line.
 use mathlib.Core.Bool.{Bool, _&&_, _||_}
 use mathlib.Core.List.{List, [], _∷_, _++_}
 use Prim.Native.Nat.{ℕ}
@@ -26,7 +26,7 @@ use Rattle.commands.specs.Command as command
 
 -- ---- by the text, which ends in a line feed (10)
 
--- the text's last line ends so
+-- the answer's last line ends in the text
 abbrev pub saysAtEnd : List ℕ → List ℕ → Bool
 saysAtEnd answer text = ends answer (text ++ (10 ∷ []))
 
@@ -39,7 +39,7 @@ holdsByEnd answer =
     || saysAtEnd answer (ascii " verdict 3"))
     || saysAtEnd answer (ascii " verdict 4")
 
--- .. behind a word
+-- .. after a word at the front
 unfoldable pub holdsBatch : List ℕ → Bool
 holdsBatch answer = begins answer (ascii "word ") && holdsByEnd answer
 
@@ -50,7 +50,7 @@ statusOf answer =
     (choose (begins answer (ascii "refused")) 2
     (choose (holdsBatch answer) 1 0))
 
--- ---- by what the command came to
+-- ---- by the command's result
 
 -- a call: 1 for a verdict other than 0, and for a failed reanalysis
 abbrev pub statusOfAnswer : Answer → ℕ
@@ -88,7 +88,7 @@ statusToCommand chart command.write = require (soundChart chart) 2 0
 statusToCommand chart (command.read bytes) = statusOfReading (reading bytes)
 statusToCommand chart command.show = 0
 
--- nothing is done for a line that is passed over, and a fault is an error
+-- a line that is passed over does nothing; a fault is an error
 abbrev pub statusTo : Chart → Line → ℕ
 statusTo chart command.passedOver = 0
 statusTo chart (command.faulty n) = 3

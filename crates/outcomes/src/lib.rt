@@ -1,5 +1,5 @@
-// What a command on the chart in a file comes to: the bytes that the file held and the command's line give the file's new bytes, or none, and
-// the text to say. Whoever reads and writes the file only moves these bytes. The exit status of an answer is here too.
+// What a command on the chart in a file comes to. The file's bytes and the command's line give the text to say, and the file's new bytes if
+// it changes. The program that reads and writes the file only moves these bytes. The exit status of an answer is here too.
 pub mod names;
 pub mod status;
 
@@ -21,7 +21,7 @@ ghost use Rattle.outcomes.specs.OnFile.{bytes, noFile, heldIn, onChart, 
 pub enum Outcome {
     // The command is answered, and the file stays as it is.
     Answered,
-    // The command is answered, and the new form is to be the file's bytes.
+    // The command is answered, and the file has to be replaced by the new form.
     Changed,
     // Nothing is done. The text says what is wrong with the file, or that there is no command.
     Fault,
@@ -31,18 +31,18 @@ pub enum Outcome {
 
 pub struct OnFile {
     pub outcome: Outcome,
-    // How many bytes at the front of the lent buffers are the form, and the text.
+    // The lengths of the form and of the text, at the front of the lent buffers.
     pub form: usize,
     pub size: usize,
 }
 
-// What is wrong, beside reading's own 13 and 14.
+// The faults that are not refusals of reading; those are 13 and 14.
 const NO_COMMAND: u16 = 1;
 
 const NO_FILE: u16 = 2;
 
-// One command on the chart in a file: whether there is a file, its bytes, and the command's line. Buffers of 814 and of 4,096 bytes have room
-// for every form and every text.
+// One command on the chart in a file. It takes whether there is a file, the file's bytes, and the command's line. Buffers of 814 and of
+// 4,096 bytes have room for every form and every text.
 pub fn on_file(there: bool, held: &[u8], line: &[u8], form: &mut [u8], out: &mut [u8]) -> OnFile
     ensures { λ r. ⌜ Ends (ending (startOf (heldIn there (now (held .entry))) (now (line .entry))) (now (line .entry)) (length (now (form .entry)))) (now (form .entry)) (now (form .exit)) (now (out .entry)) (now (out .exit)) r ⌝ }
     ensures { λ r. ⌜ Counts (r .form) (now (form .exit)) ⌝ }
@@ -67,7 +67,7 @@ fn on_no_file(line: &[u8], form: &mut [u8], out: &mut [u8]) -> OnFile
     fault(NO_FILE, out)
 }
 
-// A file with these bytes. Only a stored chart is worked on: `build` replaces no other file.
+// There is a file with these bytes. They have to be a stored chart: `build` replaces no other file.
 fn on_bytes(held: &[u8], line: &[u8], form: &mut [u8], out: &mut [u8]) -> OnFile
     ensures { λ r. ⌜ Ends (ending (startFrom (bytes (now (held .entry))) (now (line .entry))) (now (line .entry)) (length (now (form .entry)))) (now (form .entry)) (now (form .exit)) (now (out .entry)) (now (out .exit)) r ⌝ }
 {
@@ -80,7 +80,7 @@ fn on_bytes(held: &[u8], line: &[u8], form: &mut [u8], out: &mut [u8]) -> OnFile
     }
 }
 
-// The command on a chart, for which these bytes stand in the file.
+// The command on a chart, and the bytes that the file holds for it.
 fn on_chart(chart: Chart, held: &[u8], line: &[u8], form: &mut [u8], out: &mut [u8]) -> OnFile
     ensures { λ r. ⌜ Ends (ending (onChart chart (now (held .entry))) (now (line .entry)) (length (now (form .entry)))) (now (form .entry)) (now (form .exit)) (now (out .entry)) (now (out .exit)) r ⌝ }
 {
@@ -108,7 +108,7 @@ fn on_chart(chart: Chart, held: &[u8], line: &[u8], form: &mut [u8], out: &mut [
     }
 }
 
-// The file is changed only where the form is another than it holds.
+// The file is changed only if it does not hold this form already.
 fn of_form(held: &[u8], form: &[u8]) -> Outcome
     ensures { λ r. ⌜ r ≡ ofForm (now (held .entry)) (now (form .entry)) ⌝ }
 {
@@ -118,7 +118,7 @@ fn of_form(held: &[u8], form: &[u8]) -> Outcome
     Outcome::Changed
 }
 
-// A chart that is not sound (14), as that of zeros, which a refused build leaves, is put nowhere.
+// A chart that is not sound (14) is not kept. A refused build leaves the chart of zeros, which is not sound, if there was no file.
 fn not_written(number: u16) -> Outcome
     ensures { λ r. ⌜ r ≡ notWritten number ⌝ }
 {

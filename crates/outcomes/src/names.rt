@@ -1,4 +1,4 @@
-// What the name in a line says before the command is done.
+// What the name in a line says before its command is done: whether there is a command, and whether it may change the chart.
 use commands::names::Name;
 use commands::names::name_in;
 use parsing::fields::first_field;
@@ -32,7 +32,7 @@ pub fn is_name(word: &[u8]) -> bool
     }
 }
 
-// Whether the line is not passed over: it has a field, which does not begin with '#'.
+// Whether the line has a command: it has a field, and the first one does not begin with '#'.
 pub fn has_command(line: &[u8]) -> bool
     ensures { λ r. ⌜ r ≡ hasCommand (now (line .entry)) ⌝ }
 {

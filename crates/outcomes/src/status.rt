@@ -20,7 +20,7 @@ pub fn exit_status(answer: &[u8]) -> u8
     0
 }
 
-// A verdict other than 0, or a failed reanalysis, behind a word.
+// A word at the front, and at the end a verdict other than 0 or a failed reanalysis.
 fn holds_batch(answer: &[u8]) -> bool
     ensures { λ r. ⌜ r ≡ holdsBatch (now (answer .entry)) ⌝ }
 {

@@ -1,6 +1,6 @@
--- Laws of the front and the end of a text: a text that is too short (`begins-short`, `ends-short`), a text that begins so has the bytes
--- (`begins-length`), the end of two texts joined (`ends-joined`, `ends-behind`, `ends-unlike`); and of a line without a mark (`with-mark`,
--- `no-mark`, `without-mark-length`).
+-- Laws of the front and the end of a text: a text that is too short (`begins-short`, `ends-short`), a text that is long enough because it
+-- begins so (`begins-length`), the end of two texts joined (`ends-joined`, `ends-behind`, `ends-unlike`). Laws of a line without a mark
+-- (`with-mark`, `no-mark`, `without-mark-length`).
 use mathlib.Core.Path.{_≡_, refl, sym, ap, _∙_}
 use mathlib.Core.Bool.{true, false, false≢true}
 use mathlib.Core.List.{List, _++_}
@@ -27,21 +27,21 @@ pub begins-length : (text front : List ℕ) → begins text front ≡ true → l
 unfolding begins
 begins-length text front t = omega (arith, ap length (same-equal (take (length front) text) front t), length-take (length front) text)
 
--- the end of x and y joined, compared with as many bytes as y has
+-- the end of x and y joined is compared with as many bytes as y has
 pub ends-joined : (x y end : List ℕ) → length y ≡ length end → ends (x ++ y) end ≡ sameBytes y end
 unfolding ends
 ends-joined x y end e =
     let from : length (x ++ y) - length end ≡ length x = omega (arith, length-append x y) in
     rw from (ap (λ (l : List ℕ). sameBytes l end) (drop-append-seam x y))
 
--- .. and with no more bytes than y has: y's end is the whole's
+-- .. with at most as many bytes as y has: only the end of y counts
 pub ends-behind : (x y end : List ℕ) → length end ≤ length y → ends (x ++ y) end ≡ ends y end
 unfolding ends
 ends-behind x y end h =
     let from : length (x ++ y) - length end ≡ length x + (length y - length end) = omega (arith, length-append x y) in
     rw from (ap (λ (l : List ℕ). sameBytes l end) (drop-append-add x y (length y - length end)))
 
--- .. and with bytes, no fewer than y has, that do not end in y
+-- .. with at least as many bytes as y has, which do not end in y
 pub ends-unlike : (x y end : List ℕ) → length y ≤ length end → ends end y ≡ false → ends (x ++ y) end ≡ false
 unfolding ends
 ends-unlike x y end h e =
@@ -69,7 +69,7 @@ pub no-mark : (line : List ℕ) → begins line mark ≡ false → IsWithoutMark
 unfolding withoutMark
 no-mark line t = record { within = omega arith; same = rw t }
 
--- no more than three bytes are taken off
+-- at most three bytes are removed
 pub without-mark-length : (line : List ℕ) → length line ≤ 3 + length (withoutMark line)
 unfolding withoutMark
 without-mark-length line =

@@ -1,5 +1,5 @@
--- What a hex digit stands for, by its range (`of-digit`, `of-lower`, `of-upper`, `of-other`); bytes put from hex digits into a buffer, one
--- after the other (`BytesPut`).
+-- What a hex digit stands for, by its range (`of-digit`, `of-lower`, `of-upper`, `of-other`), and the bytes of hex digits put into a buffer
+-- one after the other (`BytesPut`).
 use mathlib.Core.Path.{_≡_, refl, sym, ap, _∙_}
 use mathlib.Core.Bool.{true, false}
 use mathlib.Core.List.{List, [], _∷_, _++_, append-assoc, append-nil}
@@ -45,7 +45,8 @@ module _ (b : ℕ) where
 
 -- ---- bytes put into a buffer
 
--- i bytes stand at the buffer's front: with those of the digits from 2·i on they are the bytes of all digits; all after them is as it was
+-- i bytes stand at the buffer's front. Together with those of the digits from 2·i on they are the bytes of all digits. What follows them in
+-- the buffer has not changed
 pub record BytesPut (text before after : List ℕ) (i : ℕ) : Type 0 where
   pub within : i ≤ length text / 2
   pub size : length after ≡ length before
@@ -65,7 +66,7 @@ next-byte text at h =
     let place : at + 2 ≡ suc (suc at) = omega arith in
     rw (place, add-one, drop-cons text at 0, drop-cons text (suc at) 0)
 
--- fewer than two digits are no byte
+-- fewer than two digits give no byte
 no-byte : (text : List ℕ) → length text < 2 → bytesOfHex text ≡ []
 unfolding bytesOfHex
 no-byte [] h = refl

@@ -1,4 +1,5 @@
--- Laws of a carriage return at the end of a line: none in no bytes (`no-bytes`), left out (`return-left-out`), and not there (`no-return`).
+-- Laws of a carriage return at the end of a line: the line is empty (`no-bytes`), the carriage return is left out (`return-left-out`), or
+-- there is none (`no-return`).
 use mathlib.Core.Path.{_≡_, refl, sym, ap, _∙_}
 use mathlib.Core.Bool.{true, false}
 use mathlib.Core.List.{List, [], _∷_, _++_}

@@ -1,5 +1,5 @@
--- Numbers with a sign: what the program makes of a sign and a natural number (`too-large` to `negative`), how the first byte of a field is
--- taken (`no-byte`, `minus-sign`, `no-sign`), and what a number stands for as a kind and as a word.
+-- Numbers with a sign: what the program makes of a sign and a natural number (`too-large` to `negative`), how it reads the first byte of a
+-- field (`no-byte`, `minus-sign`, `no-sign`), and what a number stands for as a kind and as a word.
 use mathlib.Core.Path.{_≡_, refl, sym, ap}
 use mathlib.Core.Bool.{Bool, true, false, not, false≢true}
 use mathlib.Core.List.{List, [], _∷_}
@@ -53,7 +53,7 @@ unfolding numberIn
 no-byte [] e = refl
 no-byte (b ∷ text) e = absurd (omega arith)
 
--- the part of the text behind a minus sign
+-- the part of the text after a minus sign
 pub minus-sign : (text : List ℕ) → (length text ≡ 0 → ⊥) → getD text 0 0 ≡ 45
     → numberIn text ≡ digitsNumber true (take (length text - 1) (drop 1 text))
 unfolding numberIn
@@ -67,7 +67,7 @@ no-sign (b ∷ text) some ne = rw (ne-eqb b 45 ne)
 
 -- ---- what a number stands for
 
--- what makes no difference between no number and a number beyond 64 bits is the same of both
+-- f has one value for no number and for a number that does not fit signed 64 bits
 pub not-whole : {X : Type 0} (f : FieldNumber → X) (n : Number) → OneOf (0 ∷ 1 ∷ []) (tagOf the-type n) → f noNumber ≡ f beyond
     → f noNumber ≡ f (numberSays n)
 unfolding numberSays
@@ -75,7 +75,7 @@ not-whole f number.NoNumber keys e = refl
 not-whole f number.Beyond keys e = e
 not-whole f (number.Whole z) keys e = absurd (⊎-elim (λ (h : 2 ≡ 0). omega arith) (λ (h : 2 ≡ 1). omega arith) keys)
 
--- a number that 64 bits hold, as the program holds it
+-- a number that fits signed 64 bits, as the program holds it
 pub record IsWhole (n : Number) (z : ℤ) : Type 0 where
   pub says : numberSays n ≡ whole z
   pub held : toZ w64 (ofZ w64 z) ≡ z
@@ -96,7 +96,7 @@ unfolding kindOf
 kind-above m (pos n) h large = rw (le-ltb n 65536 (omega (arith, ltb-true m n h)))
 kind-above m (negsuc n) h large = refl
 
--- a number of sixteen bits is cast to one, and is itself
+-- a number in 0..65535 can be cast to sixteen bits, and keeps its value
 pub record IsKind (z : ℤ) : Type 0 where
   pub casts : T (nonNeg z) × Fits w16 (natAbs z)
   pub same : natAbs z ≡ kindOf (whole z)

@@ -1,5 +1,5 @@
--- A byte between two others (`InRange`); bytes that all pass a test, as a loop looks at them one after the other (`AllFrom`), and so of
--- digits; two lists of bytes compared byte by byte (`SameFrom`).
+-- A byte between two others (`InRange`). A loop that tests whether all bytes pass a test (`AllFrom`), and so for digits. Two lists of bytes
+-- compared byte by byte (`SameFrom`).
 use mathlib.Core.Path.{_≡_, refl, sym, ap, _∙_}
 use mathlib.Core.Bool.{Bool, true, false, _&&_, not, and-true, and-false}
 use mathlib.Core.List.{List, [], _∷_}
@@ -31,7 +31,7 @@ digit-range t = in-range t
 
 -- ---- every byte passes a test
 
--- the bytes before i pass: all bytes do exactly if those from i on do
+-- the bytes before i pass the test, so all bytes pass exactly if those from i on do
 pub record AllFrom (test : ℕ → Bool) (text : List ℕ) (i : ℕ) : Type 0 where
   pub within : i ≤ length text
   pub rest : allBytes test (drop i text) ≡ allBytes test text
@@ -54,7 +54,7 @@ module _ {test : ℕ → Bool} {text : List ℕ} {i : ℕ} (so-far : AllFrom tes
   unfolding allBytes
   all-end h = sym (so-far .rest) ∙ rw (drop-of-length-le text h)
 
--- where all bytes pass, each does
+-- if all bytes pass, each does
 pub all-at : (test : ℕ → Bool) (text : List ℕ) (i : ℕ) → allBytes test text ≡ true → i < length text → test (getD text i 0) ≡ true
 unfolding allBytes
 all-at test [] i t h = absurd (omega arith)
@@ -83,7 +83,7 @@ digit-at text i t h = all-at isDigit text i (both (not (eqb (length text) 0)) (a
 
 -- ---- two lists of bytes
 
--- the bytes before i are the same: all are exactly if those from i on are
+-- the bytes before i are the same, so all bytes are the same exactly if those from i on are
 pub record SameFrom (a b : List ℕ) (i : ℕ) : Type 0 where
   pub within : i ≤ length a
   pub lengths : length a ≡ length b
@@ -123,7 +123,7 @@ same-lengths [] (y ∷ b) ne = refl
 same-lengths (x ∷ a) [] ne = refl
 same-lengths (x ∷ a) (y ∷ b) ne = rw (same-lengths a b (λ e. ne (omega arith))) (and-false (eqb x y))
 
--- what the comparison says
+-- what the comparison means
 pub same-equal : (a b : List ℕ) → sameBytes a b ≡ true → a ≡ b
 unfolding sameBytes
 same-equal [] [] t = refl

@@ -1,5 +1,5 @@
--- The number that digits denote, counted no further than 2^63 + 1 (`Counted`). With a sign, 64 bits hold neither that nor any number
--- above it, so nothing is lost (`signed-counted`).
+-- The number that digits denote, counted no further than 2^63 + 1 (`Counted`). Neither this number nor a larger one fits signed 64 bits,
+-- with either sign, so nothing is lost (`signed-counted`).
 use mathlib.Core.Path.{_≡_, refl, sym, ap, _∙_}
 use mathlib.Core.Bool.{Bool, true, false}
 use mathlib.Core.List.{List, [], _∷_}
@@ -27,7 +27,7 @@ value-counted v (d ∷ digits) =
 
 -- ---- digit by digit
 
--- n is the number of the digits before i, counted: with the digits from i on it gives the number of all
+-- n is the number that the digits before i denote, counted so far. With the digits from i on it gives the number of all digits
 pub record Counted (digits : List ℕ) (n i : ℕ) : Type 0 where
   pub within : i ≤ length digits
   pub small : n ≤ valueMost

@@ -1,4 +1,4 @@
--- Every byte passes a test; two lists of bytes are the same; what was put at the front of a buffer.
+-- Tests on bytes: every byte passes a test, two lists of bytes are the same. And what was put at the front of a buffer.
 use mathlib.Core.Path.{_≡_}
 use mathlib.Core.Bool.{Bool, true, false, _&&_}
 use mathlib.Core.List.{List, [], _∷_, _++_}
@@ -16,7 +16,7 @@ sameBytes [] (b ∷ seconds) = false
 sameBytes (a ∷ firsts) [] = false
 sameBytes (a ∷ firsts) (b ∷ seconds) = eqb a b && sameBytes firsts seconds
 
--- `put` stands at the front of the buffer, all behind it is as it was, and `count` is its length
+-- `put` stands at the front of the buffer, what follows it did not change, and `count` is its length
 pub record PutInFront {A : Type 0} (put before after : List A) (count : ℕ) : Type 0 where
   pub buffer : after ≡ put ++ drop count before
   pub counted : count ≡ length put

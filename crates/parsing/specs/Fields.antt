@@ -10,12 +10,12 @@ use Rattle.guide.specs.Choice.{choose}
 unfoldable pub isBlank : ℕ → Bool
 isBlank b = eqb b 32 || eqb b 9
 
--- b in front of the first field; where there is none, b alone
+-- b is put in front of the first field. If there is no field, b alone is one
 abbrev pub inFront : ℕ → List (List ℕ) → List (List ℕ)
 inFront b [] = (b ∷ []) ∷ []
 inFront b (field ∷ fields) = (b ∷ field) ∷ fields
 
--- b, which is no blank, in front of bytes that have these fields: it belongs to the first of them unless a blank follows it
+-- b, which is not a blank, is put in front of bytes that have these fields. It belongs to the first of them unless a blank follows it
 abbrev pub startingWith : ℕ → List ℕ → List (List ℕ) → List (List ℕ)
 startingWith b [] fields = (b ∷ []) ∷ fields
 startingWith b (next ∷ rest) fields = choose (isBlank next) ((b ∷ []) ∷ fields) (inFront b fields)
@@ -28,21 +28,21 @@ fieldsOf (b ∷ rest) = choose (isBlank b) (fieldsOf rest) (startingWith b rest 
 abbrev pub between : ℕ → ℕ → List ℕ → List ℕ
 between start end text = take (end - start) (drop start text)
 
--- every byte before `i` is a blank, and the byte at i, if there is one, is none
+-- every byte before i is a blank. The byte at i, if there is one, is not a blank
 pub record AfterBlanks (text : List ℕ) (i : ℕ) : Type 0 where
   pub within : i ≤ length text
   pub blank : (k : ℕ) → k < i → isBlank (getD text k 0) ≡ true
   pub stops : i < length text → isBlank (getD text i 0) ≡ false
 
--- no byte from `start` up to i is a blank, and the byte at i, if there is one, is
+-- no byte from `start` up to, not including, i is a blank. The byte at i, if there is one, is a blank
 pub record AfterField (text : List ℕ) (start i : ℕ) : Type 0 where
   pub ordered : start ≤ i
   pub within : i ≤ length text
   pub full : (k : ℕ) → start ≤ k → k < i → isBlank (getD text k 0) ≡ false
   pub stops : i < length text → isBlank (getD text i 0) ≡ true
 
--- the first field of the text lies from start to end, and its other fields are those of what follows; where start is end, it has none, and
--- both are the text's end
+-- the first field of the text goes from start to end, and the other fields are those of what follows. If start is end, the text has no
+-- field, and both are the text's end
 pub record IsFirstField (text : List ℕ) (start end : ℕ) : Type 0 where
   pub ordered : start ≤ end
   pub within : end ≤ length text
@@ -50,13 +50,13 @@ pub record IsFirstField (text : List ℕ) (start end : ℕ) : Type 0 where
   pub to : AfterField text start end
   pub fields : fieldsOf text ≡ choose (ltb start end) (between start end text ∷ fieldsOf (drop end text)) []
 
--- "a carriage return before its line feed is passed over": a line without a carriage return at its end
+-- a line without a carriage return at its end
 unfoldable pub withoutReturn : List ℕ → List ℕ
 withoutReturn [] = []
 withoutReturn (b ∷ []) = choose (eqb b 13) [] (b ∷ [])
 withoutReturn (b ∷ next ∷ rest) = b ∷ withoutReturn (next ∷ rest)
 
--- its first n bytes
+-- the first n bytes are the line without a carriage return at its end
 pub record IsWithoutReturn (line : List ℕ) (n : ℕ) : Type 0 where
   pub within : n ≤ length line
   pub same : take n line ≡ withoutReturn line

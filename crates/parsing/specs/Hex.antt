@@ -20,7 +20,7 @@ isHex b = isDigit b || (isLowerHex b || isUpperHex b)
 unfoldable pub areHex : List ℕ → Bool
 areHex text = allBytes isHex text
 
--- what a hex digit stands for; any other byte counts as 0
+-- what a hex digit stands for. Any other byte counts as 0
 unfoldable pub hexValue : ℕ → ℕ
 hexValue b =
     choose (isDigit b) (b - 48)
@@ -28,7 +28,7 @@ hexValue b =
     (choose (isUpperHex b) (b - 55)
     0))
 
--- the bytes of hex digits; of an odd number the last is left out
+-- the bytes that hex digits stand for. If their number is odd, the last digit is left out
 unfoldable pub bytesOfHex : List ℕ → List ℕ
 bytesOfHex [] = []
 bytesOfHex (h ∷ []) = []

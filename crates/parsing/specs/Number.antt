@@ -19,7 +19,7 @@ isDigit b = leb 48 b && leb b 57
 unfoldable pub areDigits : List ℕ → Bool
 areDigits digits = not (eqb (length digits) 0) && allBytes isDigit digits
 
--- the number that digits denote, behind digits that denote n
+-- the number that digits denote if they follow digits that denote n
 unfoldable pub valueAfter : ℕ → List ℕ → ℕ
 valueAfter n [] = n
 valueAfter n (d ∷ digits) = valueAfter (n * 10 + (d - 48)) digits
@@ -27,17 +27,17 @@ valueAfter n (d ∷ digits) = valueAfter (n * 10 + (d - 48)) digits
 unfoldable pub valueOf : List ℕ → ℕ
 valueOf digits = valueAfter 0 digits
 
--- where the program stops counting: 2^63 + 1, which 64 bits with a sign do not hold
+-- 2^63 + 1. The program counts no further, because this number fits signed 64 bits with neither sign
 abbrev pub valueMost : ℕ
 valueMost = 9223372036854775809
 
--- what a field holds: a number that 64 bits with a sign hold, a number beyond them, or no number
+-- what a field holds: no number, a number that does not fit signed 64 bits, or one that does
 pub data FieldNumber : Type 0 where
   noNumber : FieldNumber
   beyond : FieldNumber
   whole : ℤ → FieldNumber
 
--- n, or −n, where 64 bits with a sign hold it
+-- n, or −n, if it fits signed 64 bits
 abbrev pub signedValue : (negative : Bool) → ℕ → FieldNumber
 signedValue true n = choose (leb n (2 ^ 63)) (whole (negℤ (pos n))) beyond
 signedValue false n = choose (ltb n (2 ^ 63)) (whole (pos n)) beyond
@@ -57,14 +57,14 @@ numberSays (number.Whole z) = whole z
 
 -- ---- what a number stands for
 
--- "a kind that is no small number is no kind": it counts as 0
+-- a number outside 0..65535 is not a kind. It counts as 0, which is not one either
 unfoldable pub kindOf : FieldNumber → ℕ
 kindOf noNumber = 0
 kindOf beyond = 0
 kindOf (whole (pos n)) = choose (ltb n 65536) n 0
 kindOf (whole (negsuc n)) = 0
 
--- "A number that fits no sixteen-bit word is out of range": it counts as 32767, which is in no kind's range
+-- a number that does not fit a sixteen-bit word is out of range. It counts as 32767, which is in no kind's range
 abbrev pub outOfRange : ℤ
 outOfRange = pos 32767
 
@@ -76,7 +76,7 @@ wordOf noNumber = outOfRange
 wordOf beyond = outOfRange
 wordOf (whole z) = choose (fitsWord z) z outOfRange
 
--- "readings are any 64-bit number"; where there is none, 0 stands, and the line has a fault
+-- a reading may be any signed 64-bit number. A field without one counts as 0, and the line has a fault
 unfoldable pub readingOf : FieldNumber → ℤ
 readingOf noNumber = pos 0
 readingOf beyond = pos 0

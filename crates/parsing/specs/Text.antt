@@ -7,11 +7,11 @@ use lib.ListN.{length, take, drop}
 use Rattle.guide.specs.Choice.{choose}
 use Rattle.parsing.specs.Bytes.{sameBytes}
 
--- the text's first bytes are these; a shorter text's are not
+-- the text begins with these bytes. A shorter text does not
 unfoldable pub begins : List ℕ → List ℕ → Bool
 begins text front = sameBytes (take (length front) text) front
 
--- the text's last bytes are these
+-- the text ends with these bytes
 unfoldable pub ends : List ℕ → List ℕ → Bool
 ends text end = sameBytes (drop (length text - length end) text) end
 
@@ -23,7 +23,7 @@ mark = 239 ∷ 187 ∷ 191 ∷ []
 unfoldable pub withoutMark : List ℕ → List ℕ
 withoutMark line = choose (begins line mark) (drop 3 line) line
 
--- the bytes from n on
+-- the bytes from n on are the line without a mark at its front
 pub record IsWithoutMark (line : List ℕ) (n : ℕ) : Type 0 where
   pub within : n ≤ length line
   pub same : drop n line ≡ withoutMark line

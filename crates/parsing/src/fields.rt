@@ -5,13 +5,13 @@ ghost use lib.ListN.{length};
 ghost use Rattle.parsing.specs.Bytes.{sameBytes};
 ghost use Rattle.parsing.specs.Fields.{isBlank, IsFirstField, AfterBlanks, AfterField, IsWithoutReturn};
 
-// Where a field is: its first byte, and the byte behind its last.
+// The place of a field: its first byte, and the byte after its last.
 pub struct Field {
     pub start: usize,
     pub end: usize,
 }
 
-// The first field. Where there is none, start and end are the same.
+// The first field. If there is none, start and end are the same.
 pub fn first_field(text: &[u8]) -> Field
     ensures { λ r. ⌜ IsFirstField (now (text .entry)) (r .start) (r .end) ⌝ }
 {
@@ -20,7 +20,7 @@ pub fn first_field(text: &[u8]) -> Field
     Field { start, end }
 }
 
-// How many bytes a line has before a carriage return at its end.
+// How many bytes a line has without a carriage return at its end.
 pub fn without_return(line: &[u8]) -> usize
     ensures { λ r. ⌜ IsWithoutReturn (now (line .entry)) r ⌝ }
 {
@@ -51,7 +51,7 @@ pub fn same_bytes(a: &[u8], b: &[u8]) -> bool
     true
 }
 
-// The first byte that is no blank.
+// The place of the first byte that is not a blank, or the end of the text.
 fn after_blanks(text: &[u8]) -> usize
     ensures { λ r. ⌜ AfterBlanks (now (text .entry)) r ⌝ }
 {
@@ -65,7 +65,7 @@ fn after_blanks(text: &[u8]) -> usize
     i
 }
 
-// The first blank from a byte on.
+// The place of the first blank from a byte on, or the end of the text.
 fn after_field(text: &[u8], start: usize) -> usize
     requires { ⌜ start ≤ length (now text) ⌝ }
     ensures { λ r. ⌜ AfterField (now (text .entry)) start r ⌝ }

@@ -19,7 +19,7 @@ pub fn are_hex(text: &[u8]) -> bool
     true
 }
 
-// The bytes that hex digits stand for, at the front of a buffer. Answers how many they are.
+// Puts the bytes that hex digits stand for at the front of a buffer. Answers how many they are.
 pub fn put_bytes_of_hex(text: &[u8], bytes: &mut [u8]) -> usize
     requires { ⌜ length (now text) ≤ length (now bytes) ⌝ }
     ensures { λ r. ⌜ PutInFront (bytesOfHex (now (text .entry))) (now (bytes .entry)) (now (bytes .exit)) r ⌝ }

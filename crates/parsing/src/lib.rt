@@ -1,4 +1,4 @@
-// Text that comes as bytes: the fields of a line, a number in decimal, bytes as hex digits, the front and the end of a text.
+// Text as bytes: the fields of a line, a number in decimal, bytes from hex digits, the front and the end of a text.
 pub mod fields;
 pub mod hex;
 pub mod numbers;

@@ -5,7 +5,7 @@ ghost use Prim.Native.Nat.{_+_, _*_, _-_, _≤_, min};
 ghost use Rattle.parsing.specs.Number.{isDigit, areDigits, valueOf, valueMost, signedValue, digitsNumber, numberIn, numberSays};
 ghost use Rattle.parsing.specs.Number.{kindOf, wordOf, readingOf};
 
-// 2^63, and the least number that is beyond 64 bits with either sign.
+// 2^63, and the least number that fits signed 64 bits with neither sign.
 const SIGN_BIT: u64 = 9223372036854775808;
 
 const VALUE_MOST: u64 = 9223372036854775809;
@@ -13,7 +13,7 @@ const VALUE_MOST: u64 = 9223372036854775809;
 // What a field holds.
 pub enum Number {
     NoNumber,
-    // A number that 64 bits do not hold.
+    // A number that does not fit signed 64 bits.
     Beyond,
     Whole(i64),
 }
@@ -69,7 +69,7 @@ pub fn reading_of(n: Number) -> i64
     z
 }
 
-// Digits, with the sign that stood before them.
+// The number that digits denote, with the sign that stood before them.
 fn digits_number(negative: bool, digits: &[u8]) -> Number
     ensures { λ r. ⌜ numberSays r ≡ digitsNumber negative (now (digits .entry)) ⌝ }
 {
@@ -98,7 +98,7 @@ pub fn is_digit(b: u8) -> bool
     (48 <= b) & (b <= 57)
 }
 
-// The number that digits denote, or 2^63 + 1 where it is more: no number beyond 64 bits with a sign is looked at any closer.
+// The number that digits denote, but at most 2^63 + 1. Larger numbers do not fit signed 64 bits either, so this one stands for them all.
 fn value_of(digits: &[u8]) -> u64
     requires { ⌜ areDigits (now digits) ≡ true ⌝ }
     ensures { λ r. ⌜ r ≡ min (valueOf (now (digits .entry))) valueMost ⌝ }
@@ -112,7 +112,7 @@ fn value_of(digits: &[u8]) -> u64
     n
 }
 
-// One digit more.
+// n with one more digit after it, but at most 2^63 + 1.
 fn with_digit(n: u64, d: u8) -> u64
     requires { ⌜ (isDigit d ≡ true) × (n ≤ valueMost) ⌝ }
     ensures { λ r. ⌜ r ≡ min (n * 10 + (d - 48)) valueMost ⌝ }
@@ -123,7 +123,7 @@ fn with_digit(n: u64, d: u8) -> u64
     n * 10 + ((d - 48) as u64)
 }
 
-// n with a sign. Of a number below 0, `!` of |z| − 1 is z.
+// n with a sign. A number z below 0 is `!` of |z| − 1.
 fn signed_number(negative: bool, n: u64) -> Number
     ensures { λ r. ⌜ numberSays r ≡ signedValue negative n ⌝ }
 {

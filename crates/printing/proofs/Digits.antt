@@ -1,4 +1,4 @@
--- Laws of numbers as text. The digits of n are those of n / 10 and n % 10 behind them (`decimal-small`, `decimal-more`), and they say n
+-- Laws of numbers as text. The digits of n are those of n / 10, then n % 10 (`decimal-small`, `decimal-more`), and they denote n
 -- (`decimal-exact`). Eight decimals hold every number of 256ths (`parts-exact`, `parts-say`). How long each text can be (`decimal-length`,
 -- `signed-length`, `spaced-words-length`, `last-digits-length`, `parts-length`).
 use mathlib.Core.Path.{_≡_, refl, sym, ap, _∙_}
@@ -17,7 +17,7 @@ use Rattle.printing.specs.Decimal.{lastDigits, decimalsOfPart, partsNatu
 
 -- ---- the digits of a number
 
--- a number below 10 is one digit, any other has n % 10 behind the digits of n / 10
+-- a number n below 10 is one digit. Any other has the digits of n / 10, then n % 10
 module _ (more n : ℕ) where
   by-small : n < 10 → decimalBy (suc more) n ≡ digit n ∷ []
   unfolding decimalBy
@@ -27,7 +27,7 @@ module _ (more n : ℕ) where
   unfolding decimalBy
   by-more h = rw (le-ltb n 10 h)
 
--- more digits than n are enough, and how many more does not count
+-- if the bound on the number of digits is greater than n, it has no effect
 enough : (f g n : ℕ) → n < f → n < g → decimalBy f n ≡ decimalBy g n
 enough zero g n p q = absurd (omega arith)
 enough (suc f) zero n p q = absurd (omega arith)
@@ -66,7 +66,7 @@ unfolding signedDecimal
 signed-length k (pos n) h p = omega (arith, decimal-length k n h p)
 signed-length k (negsuc n) h p = omega (arith, decimal-length k (suc n) h p)
 
--- words of sixteen bits have at most five digits: with a minus sign and a blank at most seven characters
+-- words of sixteen bits have at most five digits. With a minus sign and a blank these are at most seven characters
 pub spaced-words-length : (ws : List ℤ) → ((i : ℕ) → i < length ws → natAbs (getD ws i (pos 0)) < 10 ^ 5)
     → length (spacedWords ws) ≤ 7 * length ws
 unfolding spacedWords
@@ -91,7 +91,7 @@ unfolding partsDecimal
 parts-length (pos n) h = omega (arith, natural-parts-length n (omega arith))
 parts-length (negsuc n) h = omega (arith, natural-parts-length (suc n) (omega arith))
 
--- ---- the texts of words, one behind the other; and the last digits of a number, all but one and then one
+-- ---- the texts of words, one after the other, and the last digits of a number: all but one, and then one
 
 pub spaced-joins : (x y : List ℤ) → spacedWords (x ++ y) ≡ spacedWords x ++ spacedWords y
 unfolding spacedWords
@@ -109,9 +109,9 @@ last-digits-more (suc count) n h =
     let less : count ≡ suc count - 1 = omega arith in
     ap (λ (k : ℕ). lastDigits k (n / 10) ++ (digit (n % 10) ∷ [])) less
 
--- ---- what the digits say
+-- ---- what the digits denote
 
--- the number that digits behind the number n make
+-- the number that digits denote if they follow digits that denote n
 unfoldable pub readBehind : ℕ → List ℕ → ℕ
 readBehind n [] = n
 readBehind n (c ∷ cs) = readBehind (n * 10 + (c - zeroCode)) cs
@@ -125,7 +125,7 @@ read-more : (x : List ℕ) (n : ℕ) → readBehind 0 x ≡ n / 10 → readBehin
 unfolding readBehind
 read-more x n e = read-then 0 x (digit (n % 10) ∷ []) ∙ omega arith
 
--- the digits of n say n
+-- the digits of n denote n
 decimal-says : (f n : ℕ) → n < f → readBehind 0 (decimal n) ≡ n
 unfolding readBehind
 decimal-says zero n h = absurd (omega arith)
@@ -139,7 +139,7 @@ decimal-says (suc f) n h =
 pub decimal-exact : (n : ℕ) → readBehind 0 (decimal n) ≡ n
 decimal-exact n = decimal-says (suc n) n (omega arith)
 
--- the last digits of a number that has no more say the number
+-- the last digits of a number denote it, if it has no more digits
 pub last-digits-exact : (count n : ℕ) → n < 10 ^ count → readBehind 0 (lastDigits count n) ≡ n
 unfolding lastDigits readBehind
 last-digits-exact zero n h = omega arith
@@ -147,7 +147,7 @@ last-digits-exact (suc count) n h =
     let h = rw (pow-suc 10 count) at h in
     read-more (lastDigits count (n / 10)) n (last-digits-exact count (n / 10) (omega arith))
 
--- eight decimals hold every part of 256: what is left of n has no more digits, and whole and decimals together are n · 10⁸ / 256
+-- eight decimals hold every number of 256ths: the rest of n has no more digits, and whole part and decimals together are n · 10⁸ / 256
 pub decimals-fit : (n : ℕ) → n % lineParts * decimalsOfPart < 10 ^ 8
 decimals-fit n = omega arith
 

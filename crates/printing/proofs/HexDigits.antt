@@ -1,4 +1,4 @@
--- Laws of bytes as hex digits: two to a byte, and the digits of bytes one behind the other.
+-- Laws of bytes as hex digits: two to a byte, and the digits of bytes one after the other.
 use mathlib.Core.Path.{_≡_, refl, ap}
 use mathlib.Core.List.{List, [], _∷_, _++_}
 use Prim.Native.Nat.{ℕ, _*_, _/_, _%_, _+_, _<_, _≤_}
@@ -27,7 +27,7 @@ pub hex-letter : (d : ℕ) → 10 ≤ d → hexDigit d ≡ 87 + d
 unfolding hexDigit
 hex-letter d h = rw (le-ltb d 10 h)
 
--- the two digits of a byte, put one behind the other
+-- the two digits of a byte, put one after the other
 pub puts-hex-byte : {before between after : List ℕ} {at middle next higher lower : ℕ} (b : ℕ)
     → higher ≡ hexDigit (b / 16) → lower ≡ hexDigit (b % 16)
     → Puts before at (higher ∷ []) between middle → Puts between middle (lower ∷ []) after next

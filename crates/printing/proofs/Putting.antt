@@ -1,6 +1,6 @@
--- Laws of text put into a buffer: none (`puts-none`), a byte (`puts-byte`, `puts-left-out`), and one text behind the other (`puts-then`).
--- The buffer keeps its length (`puts-length`), and a place within it stays within (`puts-within`). Where there is room, it holds the
--- text, and all other bytes are as they were (`puts-room`); where there may be none, it holds as much of it as there is room for (`puts-cut`).
+-- Laws of text put into a buffer: no text (`puts-none`), a byte (`puts-byte`, `puts-left-out`), one text after the other (`puts-then`).
+-- The buffer keeps its length (`puts-length`), and a place within it stays within (`puts-within`). If there is room, the buffer holds the
+-- text, and no other byte changes (`puts-room`). If there may be no room, it holds as much of the text as there is room for (`puts-cut`).
 use mathlib.Core.Path.{_≡_, refl, sym, ap, _∙_, subst}
 use mathlib.Core.List.{List, [], _∷_, _++_, append-assoc, append-nil}
 use Prim.Native.Nat.{ℕ, suc, _+_, _<_, _≤_, min}
@@ -39,7 +39,7 @@ module _ (before : List ℕ) (at b : ℕ) where
   unfolding putAll
   puts-left-out h = record { same = sym (put-out h) }
 
--- ---- one text behind the other
+-- ---- one text after the other
 
 pub put-append : (o : Output) (x y : List ℕ) → putAll o (x ++ y) ≡ putAll (putAll o x) y
 unfolding putAll
@@ -51,7 +51,7 @@ pub puts-then : {before between after x y : List ℕ} {at middle next : ℕ}
 puts-then {before} {x = x} {y = y} {at = at} first second =
     record { same = second .same ∙ ap (λ (o : Output). putAll o y) (first .same) ∙ sym (put-append (output before at) x y) }
 
--- a loop that puts the texts of the elements of a list, one behind the other: the next element, and the end
+-- a loop that puts the texts of the elements of a list, one after the other: the next element, and the end
 module _ {A : Type 0} (text : List A → List ℕ) (xs : List A) (i : ℕ) {before : List ℕ} {at : ℕ} where
   pub puts-next : {between after : List ℕ} {middle next : ℕ} (a : A)
       → ((x y : List A) → text (x ++ y) ≡ text x ++ text y) → i < length xs
@@ -134,7 +134,7 @@ puts-front {before} x room puts =
     let h = puts-room x (omega arith) puts in
     record { bytes = h .bytes ∙ rw zero-add; place = h .place ∙ zero-add (length x) }
 
--- ---- what the buffer holds up to the place, where there may be no room for all of the text
+-- ---- what the buffer holds up to the place, if there may be no room for the whole text
 
 pub record Cut (before : List ℕ) (at : ℕ) (x after : List ℕ) (next : ℕ) : Type 0 where
   pub place : next ≡ min (at + length x) (length before)

@@ -1,4 +1,4 @@
--- A signed number as text, by its sign: a minus sign and the text of its magnitude, or that text alone. A word behind a blank.
+-- A signed number as text, by its sign: a minus sign and the text of its magnitude, or that text alone. A word after a space.
 use mathlib.Core.Path.{_≡_, refl, sym, ap, _∙_}
 use mathlib.Core.Bool.{true, false, false≢true}
 use mathlib.Core.List.{List, [], _∷_}
@@ -15,7 +15,7 @@ use Rattle.printing.specs.Output.{Puts}
 use Rattle.printing.proofs.Putting.{puts-then}
 use Rattle.printing.proofs.Digits.{spaced-one}
 
--- a text that has a minus sign before the text of the magnitude where the number is below 0
+-- the text of a number is that of its magnitude, with a minus sign before it if the number is below 0
 pub record Signed (text : ℤ → List ℕ) (magnitude : ℕ → List ℕ) : Type 0 where
   pub natural : (n : ℕ) → text (pos n) ≡ magnitude n
   pub negative : (n : ℕ) → text (negsuc n) ≡ minusCode ∷ magnitude (suc n)
@@ -54,7 +54,7 @@ module _ {text : ℤ → List ℕ} {magnitude : ℕ → List ℕ} (s : Signed te
         let size = size ∙ ap natAbs own in
         rw (text-not-below z (rw own at t), ← size) all
 
--- a word as the machine holds it, behind a blank
+-- a word as the machine holds it, after a space
 pub puts-spaced : {before after : List ℕ} {at next : ℕ} (w : ℤ) → SFits w16 w
     → Puts before at (spaceCode ∷ signedDecimal (toZ w16 (ofZ w16 w))) after next → Puts before at (spacedWords (w ∷ [])) after next
 puts-spaced w fits puts = rw spaced-one (rw (toZ-ofZ fits) at puts)

@@ -19,11 +19,11 @@ pointCode = 46
 abbrev pub spaceCode : ℕ
 spaceCode = 32
 
--- a digit 0..9
+-- the code of a digit 0..9
 abbrev pub digit : ℕ → ℕ
 digit d = zeroCode + d
 
--- the digits of n, the highest first, at most so many; n + 1 are enough: `proofs/Digits` has
+-- the digits of n, the highest first. The first argument is the most digits that are given, and n + 1 are enough: `proofs/Digits` proves
 -- decimal n ≡ digit n ∷ [] for n below 10, and decimal n ≡ decimal (n / 10) ++ (digit (n % 10) ∷ []) otherwise
 unfoldable pub decimalBy : ℕ → ℕ → List ℕ
 decimalBy zero n = []
@@ -37,12 +37,12 @@ unfoldable pub signedDecimal : ℤ → List ℕ
 signedDecimal (pos n) = decimal n
 signedDecimal (negsuc n) = minusCode ∷ decimal (suc n)
 
--- words, each behind a space
+-- words, each after a space
 unfoldable pub spacedWords : List ℤ → List ℕ
 spacedWords [] = []
 spacedWords (w ∷ ws) = (spaceCode ∷ signedDecimal w) ++ spacedWords ws
 
--- the last `count` digits of n, with zeros in front where it has fewer
+-- the last `count` digits of n, with zeros in front if it has fewer
 unfoldable pub lastDigits : ℕ → ℕ → List ℕ
 lastDigits zero n = []
 lastDigits (suc count) n = lastDigits count (n / 10) ++ (digit (n % 10) ∷ [])

@@ -1,4 +1,4 @@
--- Bytes put into a lent buffer, one behind the other.
+-- Bytes put into a lent buffer, one after the other.
 use mathlib.Core.Path.{_≡_}
 use mathlib.Core.List.{List, [], _∷_}
 use Prim.Native.Nat.{ℕ, _+_}
@@ -14,15 +14,15 @@ pub record Output : Type 0 where
 abbrev pub output : List ℕ → ℕ → Output
 output bytes place = record { bytes = bytes; place = place }
 
--- a byte at the place. A byte for which the buffer has no room is left out
+-- a byte is put at the place. If the buffer has no room for it, it is left out
 unfoldable pub putByte : Output → ℕ → Output
 putByte o b = choose (ltb (o .place) (length (o .bytes))) (output (set (o .bytes) (o .place) b) (o .place + 1)) o
 
--- bytes, one behind the other
+-- bytes are put, one after the other
 unfoldable pub putAll : Output → List ℕ → Output
 putAll o [] = o
 putAll o (b ∷ bytes) = putAll (putByte o b) bytes
 
--- as much of x as there is room for is put from `at` on, `next` is the place after that, and all other bytes are as they were
+-- x is put from `at` on, as far as the buffer has room, and `next` is the place after that. No other byte changes
 pub record Puts (before : List ℕ) (at : ℕ) (x after : List ℕ) (next : ℕ) : Type 0 where
   pub same : output after next ≡ putAll (output before at) x

@@ -1,7 +1,7 @@
 // Text put into a lent buffer: bytes, numbers in decimal, 256ths with eight decimals, bytes as hex digits.
 //
-// Each function puts its text from a place of the buffer on and answers the place behind it, so that the next text goes there. What there
-// is no room for is left out, and the place then stays where it is.
+// Each function puts its text into the buffer from a place on. It answers the place after the text, where the next text goes. A byte for
+// which there is no room is left out, and does not move the place.
 pub mod hex;
 pub mod numbers;
 

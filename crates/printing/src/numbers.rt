@@ -12,7 +12,7 @@ const LINE_PARTS: u64 = 256;
 // 1/256 is 0.00390625.
 const DECIMALS_OF_PART: u64 = 390625;
 
-// All digits but the last, and then the last.
+// Puts all digits but the last, and then the last.
 pub fn put_decimal(out: &mut [u8], at: usize, n: u64) -> usize
     ensures { λ r. ⌜ Puts (now (out .entry)) at (decimal n) (now (out .exit)) r ⌝ }
 {
@@ -33,7 +33,7 @@ pub fn put_signed(out: &mut [u8], at: usize, z: i64) -> usize
     put_decimal(out, at, magnitude(z))
 }
 
-// Each word behind a space.
+// Each word after a space.
 pub fn put_words(out: &mut [u8], at: usize, words: &[i16]) -> usize
     ensures { λ r. ⌜ Puts (now (out .entry)) at (spacedWords (now (words .entry))) (now (out .exit)) r ⌝ }
 {
@@ -71,7 +71,7 @@ fn put_word(out: &mut [u8], at: usize, w: i16) -> usize
     put_signed(out, next, w as i64)
 }
 
-// n / 256: the whole part, and eight decimals of what is left.
+// n / 256: the whole part, then the rest as eight decimals.
 fn put_natural_parts(out: &mut [u8], at: usize, n: u64) -> usize
     ensures { λ r. ⌜ Puts (now (out .entry)) at (partsNatural n) (now (out .exit)) r ⌝ }
 {
@@ -80,7 +80,7 @@ fn put_natural_parts(out: &mut [u8], at: usize, n: u64) -> usize
     put_last_digits(out, after_point, 8, n % LINE_PARTS * DECIMALS_OF_PART)
 }
 
-// The last `count` digits of n, with zeros in front.
+// The last `count` digits of n, with zeros in front if it has fewer.
 fn put_last_digits(out: &mut [u8], at: usize, count: usize, n: u64) -> usize
     ensures { λ r. ⌜ Puts (now (out .entry)) at (lastDigits count n) (now (out .exit)) r ⌝ }
 {

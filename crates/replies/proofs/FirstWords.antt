@@ -1,4 +1,4 @@
--- The words that are shown of a chart's places: as many as the chart says, and no more than there are (`first-words`).
+-- The words of a chart that are shown: as many as the chart says, but at most as many as it has places (`first-words`).
 use mathlib.Core.Path.{_≡_, sym, _∙_}
 use mathlib.Core.List.{List}
 use Prim.Native.Nat.{ℕ, _≤_, min}

@@ -1,5 +1,5 @@
--- How long the texts can be, where the paper's words, counts, verdicts and refusals in them have at most five digits; a chart's lines, of any
--- doubles; and bytes in hex digits.
+-- How long the texts can be, if the paper's words, counts, verdicts and refusals in them have at most five digits. How long a chart's lines
+-- can be, for any doubles, and bytes in hex digits.
 use mathlib.Core.Path.{_≡_, refl}
 use mathlib.Core.Bool.{Bool, true, false}
 use mathlib.Core.List.{List}
@@ -95,7 +95,7 @@ pub reading-length : (a : ReadingAnswer) → ShortReading a → length (readingT
 reading-length (reading.taken s) h = lit≤ tt
 reading-length (reading.refused n) h = omega (arith, refusal-length n h)
 
--- ---- lines: of any doubles, what is read off them has 64 bits
+-- ---- lines: for any doubles, the numbers read off them fit 64 bits
 
 line-length : (x : Float) → length (chartLineText x) ≤ 31
 unfolding chartLineText
@@ -160,7 +160,7 @@ state-length s h =
       list-length (ascii " series ") (s .series) (h .series-count) (h .series),
     ))
 
--- ---- what is wrong with a line
+-- ---- the texts of faults
 
 pub fault-length : (n : ℕ) → length (faultText n) ≤ 80
 unfolding faultText

@@ -1,4 +1,4 @@
--- Laws of faults' texts, of the words that are shown of a chart, and of how long the texts can be.
+-- Laws of the texts of faults, of the words of a chart that are shown, and of how long the texts can be.
 mod OtherFault
 mod FirstWords
 pub mod Lengths

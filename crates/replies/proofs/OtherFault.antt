@@ -1,11 +1,11 @@
--- A law of faults' texts: a number that is none of the first seven is told as the last.
+-- A law of the texts of faults: a number that is none of the first seven has the last text.
 use mathlib.Core.Path.{_≡_}
 use Prim.Native.Nat.{ℕ}
 use borrow.Author.Tests.{ne-eqb}
 use Rattle.printing.specs.Ascii.{ascii}
 use Rattle.replies.specs.Faults.{faultText}
 
--- n is none of 1 to 7, as the last arm of a match has it
+-- n is none of 1 to 7, in the form that the last arm of a match gives
 abbrev pub OtherFault : ℕ → Type 0
 OtherFault n =
     ((((((Unit {0} × (n ≡ 1 → ⊥)) × (n ≡ 2 → ⊥)) × (n ≡ 3 → ⊥)) × (n ≡ 4 → ⊥)) × (n ≡ 5 → ⊥)) × (n ≡ 6 → ⊥)) × (n ≡ 7 → ⊥)

@@ -1,4 +1,4 @@
--- What can be wrong with a line, by numbers of this program's own (not document 01's), and the text that says it. 0 is nothing wrong.
+-- The faults that a line can have, and their texts. The numbers are this program's own, not document 01's. 0 means no fault.
 use mathlib.Core.List.{List}
 use Prim.Native.Nat.{ℕ, zero, suc}
 use lib.Dec.{eqb}
@@ -34,7 +34,7 @@ abbrev pub orElse : ℕ → ℕ → ℕ
 orElse zero later = later
 orElse (suc fault) later = suc fault
 
--- what is wrong, and what to do; the last text is that of 8, and of any other number
+-- the text says what is wrong and what to do. The last text is that of 8 and of every other number
 unfoldable pub faultText : ℕ → List ℕ
 faultText n =
     choose (eqb n unknownCommand) (ascii "error: unknown command; control_chart help lists the commands")

@@ -25,7 +25,7 @@ use Rattle.printing.specs.Ascii.{ascii}
 abbrev pub namedText : List ℕ → ℕ → List ℕ
 namedText name n = name ++ decimal n
 
--- "any of them, declined": `refused N`
+-- the reply to any call that is refused: `refused N`
 unfoldable pub refusalText : ℕ → List ℕ
 refusalText n = namedText (ascii "refused ") n
 
@@ -59,7 +59,7 @@ answerText corrected = ascii "corrected"
 answerText (renewed rounds removed) = ascii "renewed " ++ roundsText rounds removed
 answerText (refused n) = refusalText n
 
--- a line behind a space: "each exactly, with eight decimals, from the doubles". It is exact of the doubles that a chart's lines are
+-- a line after a space, with eight decimals, from its double. The text is exact for the doubles of a chart's lines
 -- (`lines/proofs/HeldLines`)
 unfoldable pub chartLineText : Float → List ℕ
 chartLineText x = ascii " " ++ partsDecimal (partsHeld x)

@@ -1,4 +1,4 @@
-// What the calls answer, as text at the front of a buffer. Each function answers the place behind its text.
+// What the calls answer, as text at the front of a buffer. Each function answers the place after its text.
 use chart::BuildAnswer;
 use chart::Chart;
 use chart::CorrectionAnswer;
@@ -39,7 +39,7 @@ pub fn put_formed(out: &mut [u8], formed: Formed) -> usize
     }
 }
 
-// The chart is building's, for the contract alone: the text does not show it.
+// `chart` is the chart that building gave. Only the contract needs it: the text does not show it.
 pub fn put_build(out: &mut [u8], chart: Chart, answer: BuildAnswer) -> usize
     ensures { λ r. ⌜ Puts (now (out .entry)) 0 (buildingText (buildSays chart answer)) (now (out .exit)) r ⌝ }
 {
@@ -151,7 +151,7 @@ pub fn put_refusal(out: &mut [u8], n: u16) -> usize
     put_named(out, 0, b"refused ", n)
 }
 
-// What is wrong with a line.
+// The text of a fault in a line.
 pub fn put_fault(out: &mut [u8], fault: u8) -> usize
     ensures { λ r. ⌜ Puts (now (out .entry)) 0 (faultText fault) (now (out .exit)) r ⌝ }
 {
@@ -241,7 +241,7 @@ fn put_five_lines(out: &mut [u8], at: usize, l: TwoSidedLines) -> usize
     put_chart_line(out, behind_control, l.upper_control)
 }
 
-// A line of the chart, behind a space.
+// A line of the chart, after a space.
 fn put_chart_line(out: &mut [u8], at: usize, line: f64) -> usize
     ensures { λ r. ⌜ Puts (now (out .entry)) at (chartLineText line) (now (out .exit)) r ⌝ }
 {
@@ -249,7 +249,7 @@ fn put_chart_line(out: &mut [u8], at: usize, line: f64) -> usize
     put_parts(out, next, parts_in(line))
 }
 
-// A number behind its name.
+// A name, and a number after it.
 fn put_named(out: &mut [u8], at: usize, name: &[u8], n: u16) -> usize
     ensures { λ r. ⌜ Puts (now (out .entry)) at (namedText (now (name .entry)) n) (now (out .exit)) r ⌝ }
 {

@@ -1,4 +1,4 @@
--- Laws of bytes put into a buffer: none (`placed-none`), a number's two (`placed-number`), and one behind the other (`placed-then`).
+-- Laws of bytes put into a buffer: no bytes (`placed-none`), the two of a number (`placed-number`), some after others (`placed-then`).
 use mathlib.Core.Path.{_≡_, refl, sym, ap, _∙_}
 use mathlib.Core.List.{List, [], _∷_, _++_, append-assoc}
 use Prim.Native.Nat.{ℕ, suc, _+_, _/_, _%_, _<_, _≤_}
@@ -15,7 +15,7 @@ module _ (buffer : List ℕ) (at : ℕ) (x : List ℕ) (room : at + length x ≤
   unfolding overwritten
   length-overwritten = simp (length-append, length-take, length-drop) (omega arith)
 
-  -- two, one behind the other, are one
+  -- to put x and then y after it is to put x ++ y
   overwritten-twice : (y : List ℕ) → overwritten (overwritten buffer at x) (at + length x) y ≡ overwritten buffer at (x ++ y)
   unfolding overwritten
   overwritten-twice y =
@@ -37,7 +37,7 @@ placed-none buffer at =
     let none : at ≡ at + 0 = omega arith in
     record { buffer = sym (rw (← none) (take-append-drop at buffer)); place = none }
 
--- the bytes put behind others, as two calls leave them
+-- bytes put after others by two calls
 pub placed-then : {before between after : List ℕ} {at middle end : ℕ} (x y : List ℕ) → at + length x ≤ length before
     → Placed before at x between middle → Placed between middle y after end → Placed before at (x ++ y) after end
 placed-then {before} {between} {after} {at} {middle} {end} x y room first second =
@@ -50,7 +50,7 @@ placed-then {before} {between} {after} {at} {middle} {end} x y room first second
       place = second .place ∙ omega (arith, first .place, length-append x y);
     }
 
--- the buffer's length stays
+-- the buffer's length does not change
 pub placed-length : {before after : List ℕ} {at end : ℕ} (x : List ℕ) → at + length x ≤ length before
     → Placed before at x after end → length after ≡ length before
 placed-length {before} {after} {at} x room placed = ap length (placed .buffer) ∙ length-overwritten before at x room
@@ -60,7 +60,7 @@ pub placed-front : {before after : List ℕ} {end : ℕ} (x : List ℕ) → Plac
 unfolding overwritten
 placed-front {before} x placed = placed .buffer ∙ rw zero-add
 
--- a number, as two stores leave it
+-- a number put by two stores
 pub placed-number : (buffer : List ℕ) (at n : ℕ) → at + 2 ≤ length buffer
     → Placed buffer at (bytesOf (n ∷ [])) (set (set buffer at (n % 256)) (at + 1) (n / 256)) (at + 2)
 unfolding overwritten bytesOf

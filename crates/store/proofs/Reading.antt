@@ -1,4 +1,4 @@
--- Laws of reading: what a layout that was found tells (`laid-out`), the chart that three records hold (`chart-held`), and reading's
+-- Laws of reading: what follows from a layout that was found (`laid-out`), the chart that three records hold (`chart-held`), and reading's
 -- contract in each of its cases (`read-no-form`, `read-unsound`, `read-done`).
 use mathlib.Core.Path.{_≡_, refl, sym, ap, ap₂, _∙_}
 use mathlib.Core.Bool.{Bool, true, false}
@@ -79,7 +79,7 @@ module _ (bytes : List ℕ) (head base series : Place) (l : Laid bytes head base
   facts : FormFacts bytes
   facts = form-facts bytes (l .is-form)
 
-  -- each record lies within the bytes, and has as many numbers as it may
+  -- each record lies within the bytes, and does not have too many numbers
   pub head-within : LiesWithin bytes head
   unfolding headPlace
   head-within = rw (l .head-is) (place-within 0 bytes (facts .head .is-record))
@@ -165,7 +165,7 @@ module _ (bytes : List ℕ) (head base series : Place) (l : Laid bytes head base
 
 -- ---- reading, by its cases
 
--- no layout is found only where there is no form
+-- if no layout is found, there is no form
 no-layout : (form : Bool) (h b s : Place) → choose form (layout.Form h b s) layout.Other ≡ layout.Other → form ≡ false
 no-layout true h b s e = let z : _≡_ {A = ℕ} 0 1 = cc in absurd (omega arith)
 no-layout false h b s e = refl
@@ -189,6 +189,6 @@ module _ (bytes : List ℕ) (form : isForm bytes ≡ true) (c : Chart) (is : c �
       let done : reading bytes ≡ taken (heldIn bytes) = rw (form, ap sound (sym same-state) ∙ h) in
       record { chart = is ∙ ap chartAfterReading (sym done); says = ap taken same-state ∙ sym done }
 
--- an answer that was given for bytes that are declined by this number
+-- an answer for bytes that are refused with this number
 pub read-declined : (bytes : List ℕ) (n : ℕ) (r : ReadChart) → reading bytes ≡ refused n → IsRead (refused n) r → IsRead (reading bytes) r
 read-declined bytes n r e is = rw e is

@@ -1,5 +1,5 @@
--- Laws of records in bytes: the facts that the test of a record at a byte stands for (`record-facts`); what `record_at`,
--- `find_record` and `lay_out` answer in each of their branches; and the numbers of a record as they are read one after the other.
+-- Laws of records in bytes: the facts that follow from the test of a record at a byte (`record-facts`), what `record_at`,
+-- `find_record` and `lay_out` answer in each of their branches, and the numbers of a record as they are read one after the other.
 use mathlib.Core.Path.{_≡_, refl, sym, ap, _∙_}
 use mathlib.Core.Bool.{Bool, true, false, _||_, not}
 use mathlib.Core.List.{List, _++_, map, map-append, append-assoc}
@@ -28,7 +28,7 @@ use Rattle.store.specs.declared.records.Found.the-variants as found
 use Rattle.store.specs.declared.Layout.the-variants as layout
 use Rattle.store.specs.Records.{recordIn, placeAt, recordAt, headPlace, basePlace, seriesPlace, layoutOf, numbersAt}
 
--- ---- what was chosen tells the condition
+-- ---- the condition follows from what was chosen
 
 chosen : {A : Type 0} (t : Bool) (x y a : A) → a ≡ choose t x y → (a ≡ y → ⊥) → (t ≡ true) × (a ≡ x)
 chosen true x y a e other = (refl, e)
@@ -63,7 +63,7 @@ is-length n h =
     (ltb-false n 2 (tests .0), eqb-true (n % 2) 0 (not-false (eqb (n % 2) 0) (tests .1)))
 
 module _ (at : ℕ) (bytes : List ℕ) where
-  -- the test and the facts
+  -- from the test to the facts, and back
   pub record-facts : isRecord (drop at bytes) ≡ true → IsRecord at (lengthIn (drop at bytes)) bytes
   record-facts h =
       let facts = guide.record-facts (drop at bytes) h in
@@ -85,7 +85,7 @@ module _ (at : ℕ) (bytes : List ℕ) where
   unfolding recordIn lengthIn
   nothing-there n e none = by-test (isRecord (drop at bytes)) (λ t. absurd (none (rw (← e) at (record-facts t)))) (λ t. rw t)
 
-  -- it answers with the record
+  -- `record_at` answers with the record
   pub record-there : (n kind : ℕ) → n ≡ numberIn (drop at bytes) → kind ≡ numberIn (drop (at + 2) bytes) → IsRecord at n bytes
       → seen.Record kind ((n - 2) / 2) ≡ recordIn (drop at bytes)
   unfolding recordIn recordKindIn countIn lengthIn
@@ -93,7 +93,7 @@ module _ (at : ℕ) (bytes : List ℕ) where
       let kind-is = k ∙ ap numberIn (sym (drop-drop 2 at bytes)) in
       rw (record-from (rw e at is), kind-is, e)
 
-  -- what its answer tells
+  -- what follows from its answer
   nothing-seen : seen.Nothing ≡ recordIn (drop at bytes) → isRecord (drop at bytes) ≡ false
   unfolding recordIn
   nothing-seen e = not-chosen _ _ _ _ e (λ (s : seen.Nothing ≡ seen.Record _ _). let z : _≡_ {A = ℕ} 0 1 = cc in omega arith)
@@ -141,13 +141,13 @@ module _ (kind least most at : ℕ) (bytes : List ℕ) where
       let there = drop at bytes in
       by-test (startsWith kind least most there) (λ t. absurd (none (starts-facts kind least most there t))) (λ t. rw t)
 
-  -- `find_record` answers that there is nothing, since nothing was seen
+  -- `find_record` answers that there is nothing, because nothing was seen
   pub no-record : {r : Seen} → r ≡ recordIn (drop at bytes) → r ≡ seen.Nothing → found.Nothing ≡ recordAt kind least most at bytes
   no-record e is =
       let none = nothing-seen at bytes (sym is ∙ e) in
       not-found (λ s. let there = s .is-record in let z : _≡_ {A = ℕ} 0 1 = cc in omega arith)
 
-  -- .. since what was seen is of another kind, or has too few numbers or too many; or it answers with the place of what was seen
+  -- .. because what was seen has another record kind, or too few numbers or too many. Otherwise it answers with the place of what was seen
   module _ (k n : ℕ) (e : seen.Record k n ≡ recordIn (drop at bytes)) where
     pub other-kind : (k ≡ kind → ⊥) → found.Nothing ≡ recordAt kind least most at bytes
     other-kind other = not-found (λ s. other (record-seen at bytes k n e .1 .0 ∙ s .kind-is))
@@ -175,7 +175,7 @@ module _ (kind least most at : ℕ) (bytes : List ℕ) where
         rw (starts-from kind least most (drop at bytes) starts)
         (λ i. found.Record (record { first = at + 4; count = same i; end = end i }))
 
-  -- what its answer tells
+  -- what follows from its answer
   nothing-found : {r : Found} → r ≡ recordAt kind least most at bytes → r ≡ found.Nothing
       → startsWith kind least most (drop at bytes) ≡ false
   unfolding recordAt
@@ -194,7 +194,7 @@ pub after-place : (at : ℕ) (bytes : List ℕ) → drop (placeAt at bytes .end)
 unfolding placeAt afterRecord
 after-place at bytes = sym (drop-drop (2 + lengthIn (drop at bytes)) at bytes)
 
--- ---- the three records, as `lay_out` looks for them
+-- ---- the three records, as `lay_out` finds them
 
 module _ (bytes : List ℕ) where
   pub no-head : {r : Found} → r ≡ recordAt 1 headCount headCount 0 bytes → r ≡ found.Nothing → layout.Other ≡ layoutOf bytes
@@ -238,7 +238,7 @@ module _ (bytes : List ℕ) where
             let there = place-found 3 0 seriesMost (base .end) bytes series at-series in
             (rw series-bytes at (there .0), there .1)
 
-        -- so many bytes are left over after it
+        -- the number of bytes left over after the third record
         left-over : length (afterRecord (fromSeries bytes)) ≡ length bytes - series .end
         left-over =
             let rest : drop (series .end) bytes ≡ afterRecord (fromSeries bytes) =
@@ -276,7 +276,7 @@ unfolding numbersAt
 number-of-place bytes p i r h e =
     e ∙ (ap numberIn (sym (drop-drop (2 * i) (p .first) bytes)) ∙ sym (number-at (p .count) i (drop (p .first) bytes) h))
 
--- the words of the first i numbers are in the first i places: of one more, by a turn of `fill`
+-- a turn of `fill`: the first i places hold the words of the first i numbers, and then one more does
 pub filled-more : (ns : List ℕ) (i : ℕ) (before : List ℤ) {places : List ℤ} {w : ℤ} → i < length ns → i < length before
     → places ≡ map wordOf (take i ns) ++ drop i before → w ≡ wordOf (getD ns i 0)
     → set places i w ≡ map wordOf (take (i + 1) ns) ++ drop (i + 1) before
@@ -286,7 +286,7 @@ filled-more ns i before {places} {w} h room e is =
     let there = set-at words (getD before i (pos 0)) (drop (suc i) before) w i count in
     rw (e, drop-cons before i (pos 0) room, there, add-one, take-suc ns i 0 h, map-append, append-assoc, is)
 
--- .. and of all
+-- .. and in the end all do
 pub filled-all : (ns : List ℕ) (n : ℕ) (before : List ℤ) {places : List ℤ} → length ns ≡ n
     → places ≡ map wordOf (take n ns) ++ drop n before → places ≡ map wordOf ns ++ drop n before
 filled-all ns n before count e = e ∙ ap (λ (l : List ℕ). map wordOf l ++ drop n before) (take-all n ns (omega arith))

@@ -1,6 +1,6 @@
--- Laws of reading what was written: the same chart comes (`returned`), unless writing declines (`not-written`). Two sound charts never
--- have the same bytes (`one-chart`), writing a chart that was read gives the bytes that it was read from (`written-again`), and lists of
--- calls on it are the machine's (`read-runs`).
+-- Laws of reading what was written. It gives the same chart (`returned`), unless writing refuses (`not-written`). Two sound charts never
+-- have the same bytes (`one-chart`). Writing a chart that was read gives the bytes that it was read from (`written-again`). Lists of calls
+-- on such a chart are the machine's (`read-runs`).
 use mathlib.Core.Path.{_≡_, refl, sym, ap, _∙_}
 use mathlib.Core.Bool.{Bool, true, false, _&&_}
 use mathlib.Core.List.{List, _++_}
@@ -27,7 +27,7 @@ use Rattle.store.specs.Store.{answerToReturn, chartReturned, Returns}
 use Rattle.store.specs.declared.ReadChart.{ReadChart}
 use Rattle.store.specs.declared.WriteAnswer.the-variants.{Done, Refused}
 
--- ---- writing that was not declined
+-- ---- writing that was not refused
 
 wrote-by : (whole room : Bool) (size n : ℕ) → wrote n ≡ require whole (form.refused 14) (require room (form.refused 15) (wrote size))
     → (whole ≡ true) × ((room ≡ true) × (n ≡ size))
@@ -47,7 +47,7 @@ module _ (c : Chart) (before after : List ℕ) (n : ℕ) (w : Writes c before af
   unfolding bufferAfterWrite bufferAfter
   written-after = rw (written-facts .0, written-facts .1 .0) at (w .buffer)
 
-  -- as many bytes are there as were written, and they are the form
+  -- the buffer has at least as many bytes as were written, and these are the form
   pub written-fits : n ≤ length after
   written-fits =
       let f = storedForm (stateOf c) in
@@ -72,7 +72,7 @@ module _ (c : Chart) (before after : List ℕ) (n : ℕ) (w : Writes c before af
         buffer = w .buffer;
       }
 
--- ---- writing that was declined
+-- ---- writing that was refused
 
 same : {n m : ℕ} → form.refused n ≡ form.refused m → n ≡ m
 same e = cc
@@ -84,7 +84,7 @@ refused-by true true size n s e = let z : _≡_ {A = ℕ} 0 1 = cc in absurd (om
 refused-by true false size n s e = (ap refused (same e), refl)
 refused-by false room size n s e = (ap refused (same e), refl)
 
--- the number comes with the chart of zeros
+-- the answer is the number of the refusal, with the chart of zeros
 pub not-written : (c : Chart) (before after : List ℕ) (n : ℕ) → Writes c before after (Refused n)
     → (r : ReadChart) → IsRead (refused n) r → Returns c before after r
 unfolding writeSays answerToWrite writing chartReturned answerToReturn chartAfterReading
@@ -93,9 +93,9 @@ not-written c before after n w r is =
     let facts = refused-by (soundChart c) (hasRoom (stateOf c) before) size n (stateOf c) (w .says) in
     record { chart = rw (facts .1) (is .chart); says = is .says ∙ facts .0; buffer = w .buffer }
 
--- ---- the round trip, of charts. `Given` says that a chart is sound and that its arrays are as long as its type says
+-- ---- writing and reading back, for charts. `Given` says that a chart is sound and that its arrays are as long as its type says
 
--- reading a sound chart's stored form gives that chart, and is not declined
+-- reading a sound chart's stored form gives that chart, and is not refused
 pub read-written : (c : Chart) → Given c → (r : ReadChart) → IsRead (reading (storedForm (stateOf c))) r
     → (r .chart ≡ c) × (readSays (r .chart) (r .answer) ≡ taken (stateOf c))
 unfolding chartAfterReading
@@ -103,7 +103,7 @@ read-written c g r is =
     let read = read-stored (stateOf c) (g .facts .state) in
     (is .chart ∙ (ap chartAfterReading read ∙ chart-of-state c g), is .says ∙ read)
 
--- a chart that was read is sound, so writing it is not declined with 14; and where it has room, it writes the bytes that were read
+-- a chart that was read is sound, so writing it is not refused with 14. If the buffer has room, writing gives the bytes that were read
 module _ (bytes : List ℕ) (are : AreBytes bytes) (s : State) (e : reading bytes ≡ taken s)
     (r : ReadChart) (is : IsRead (reading bytes) r) where
   chart-is : r .chart ≡ chartOf s
@@ -118,7 +118,7 @@ module _ (bytes : List ℕ) (are : AreBytes bytes) (s : State) (e : reading byte
       written-form (r .chart) before after n w
       ∙ (ap (λ (c : Chart). storedForm (stateOf c)) chart-is ∙ (ap storedForm (state-of-chart s) ∙ stored-read bytes s are e))
 
--- two sound charts that have the same bytes are one
+-- two sound charts that have the same bytes are the same chart
 pub one-chart : (c d : Chart) → Given c → Given d → storedForm (stateOf c) ≡ storedForm (stateOf d) → c ≡ d
 one-chart c d g h e =
     sym (chart-of-state c g) ∙ (ap chartOf (one-form (stateOf c) (stateOf d) (g .facts .state) (h .facts .state) e) ∙ chart-of-state d h)

@@ -1,5 +1,5 @@
 -- Laws of numbers in two bytes, as the code makes them: a word's number (`bits-are`), a number's word (`word-is`), the number at a byte
--- (`number-is`), words put one behind the other (`words-put`, `words-then`), a record put in parts (`record-placed`).
+-- (`number-is`), words put one after the other (`words-put`, `words-then`), a record put in parts (`record-placed`).
 use mathlib.Core.Path.{_≡_, refl, _∙_}
 use mathlib.Core.List.{List, [], _∷_, map, map-append}
 use Prim.Native.Nat.{ℕ, suc, _+_, _*_, _-_, _<_, _≤_}
@@ -66,7 +66,7 @@ module _ (words : List ℤ) (i : ℕ) where
       let count = length-first some in
       record { place = placed .place ∙ omega arith; size = placed-length bytesOfFirst (omega arith) placed }
 
-  -- and then the number n of the next
+  -- and then the number n of the next word
   pub words-then : {before out after : List ℕ} {at next end n : ℕ} → i < length words → at + 2 * length words ≤ length before
       → Placed before at bytesOfFirst out next → n ≡ numberOf (getD words i (pos 0)) → Placed out next (bytesOf (n ∷ [])) after end
       → Placed before at (bytesOf (map numberOf (take (i + 1) words))) after end

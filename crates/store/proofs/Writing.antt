@@ -1,4 +1,4 @@
--- Laws of writing: the stored form's size (`form-size`), its three records one behind the other (`form-placed`), and writing's contract in
+-- Laws of writing: the stored form's size (`form-size`), its three records one after the other (`form-placed`), and writing's contract in
 -- each of its cases (`write-unsound`, `write-short`, `write-done`).
 use mathlib.Core.Path.{_≡_, ap, _∙_}
 use mathlib.Core.Bool.{true, false}
@@ -26,7 +26,7 @@ use Rattle.store.specs.Store.{recordSize, formSize, writeSays, answerToW
 use Rattle.store.specs.declared.WriteAnswer.the-variants.{Done, Refused}
 use Rattle.store.proofs.Placed.{placed-then, placed-front}
 
--- the first record's numbers, as they come back from the words that stand for them
+-- the words that stand for the first record's numbers give these numbers back
 pub head-number : {r : ℤ} {k : ℕ} → SFits w16 r → k < 65536 → r ≡ wordOf k → numberOf (toZ w16 (ofZ w16 r)) ≡ k
 head-number {r} {k} fits small is = ap numberOf (toZ-ofZ w16 r fits ∙ is) ∙ number-back k small
 
@@ -71,7 +71,7 @@ pub record-ends : {before after : List ℕ} {at next : ℕ} (kind : ℕ) (ns : L
     → next ≡ at + (4 + 2 * length ns)
 record-ends kind ns placed = omega (arith, placed .place, length-record kind ns)
 
--- three records, one behind the other, are the form
+-- three records, one after the other, are the form
 pub form-placed : (s : State) (head : List ℕ) {o₀ o₁ o₂ o₃ : List ℕ} {second third end : ℕ}
     → length (storedForm s) ≤ length o₀ → head ≡ headNumbers s
     → Placed o₀ 0 (recordOf 1 head) o₁ second

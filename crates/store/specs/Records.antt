@@ -1,4 +1,4 @@
--- What the functions that look for records give, by the definitions of `guide/specs/Reading` at the bytes from a byte on.
+-- What the functions that look for records give. They apply the definitions of `guide/specs/Reading` to the bytes from a given byte on.
 use mathlib.Core.List.{List, _++_, map}
 use Prim.Native.Nat.{ℕ, _+_, _*_, _≤_}
 use lib.ListN.{length, drop}
@@ -14,22 +14,22 @@ use Rattle.store.specs.declared.records.Found.the-variants as found
 use Rattle.store.specs.declared.Layout.{Layout}
 use Rattle.store.specs.declared.Layout.the-variants as layout
 
--- the record at the front of bytes, of whatever kind
+-- the record at the front of the bytes, of any record kind
 unfoldable pub recordIn : List ℕ → Seen
 recordIn bytes = choose (isRecord bytes) (seen.Record (recordKindIn bytes) (countIn bytes)) seen.Nothing
 
--- where the record is that begins at a byte: its first number comes after its length and its record kind
+-- the place of the record that begins at a byte. Its first number comes after its length and its record kind
 unfoldable pub placeAt : ℕ → List ℕ → Place
 placeAt at bytes =
     let there = drop at bytes in
     record { first = at + 4; count = countIn there; end = at + (2 + lengthIn there) }
 
--- the record that begins at a byte, if it is of this record kind and its numbers are at least `least` and at most `most`
+-- the record that begins at a byte, if it has this record kind and from `least` to `most` numbers
 unfoldable pub recordAt : (recordKind least most : ℕ) → ℕ → List ℕ → Found
 recordAt recordKind least most at bytes =
     choose (startsWith recordKind least most (drop at bytes)) (found.Record (placeAt at bytes)) found.Nothing
 
--- where the three records of a stored form are, each where the one before it ends
+-- the places of the three records of a stored form. Each record begins where the one before it ends
 unfoldable pub headPlace : List ℕ → Place
 headPlace bytes = placeAt 0 bytes
 
@@ -46,10 +46,10 @@ layoutOf bytes = choose (isForm bytes) (layout.Form (headPlace bytes) (basePlace
 unfoldable pub numbersAt : List ℕ → Place → List ℕ
 numbersAt bytes p = numbersIn (p .count) (drop (p .first) bytes)
 
--- they lie within the bytes
+-- the numbers of the record at a place lie within the bytes
 pub record LiesWithin (bytes : List ℕ) (p : Place) : Type 0 where
   pub enough : p .first + 2 * p .count ≤ length bytes
 
--- an array with the words of the record in its first places, and in the places after them what was there
+-- an array with the words of the record in its first places. The places after them do not change
 unfoldable pub filledFrom : List ℕ → Place → List ℤ → List ℤ
 filledFrom bytes p before = map wordOf (numbersAt bytes p) ++ drop (p .count) before

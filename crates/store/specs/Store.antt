@@ -1,4 +1,4 @@
--- What writing and reading a chart give: document 01's writing and reading, through the state that the chart stands for.
+-- What writing and reading a chart give: document 01's writing and reading, applied to the state that the chart stands for.
 use mathlib.Core.Path.{_≡_}
 use mathlib.Core.Bool.{_&&_}
 use mathlib.Core.List.{List}
@@ -16,11 +16,11 @@ use Rattle.store.specs.declared.ReadAnswer.{ReadAnswer}
 use Rattle.store.specs.declared.ReadAnswer.the-variants as read
 use Rattle.store.specs.declared.ReadChart.{ReadChart}
 
--- the bytes of a record of n numbers: its length, its record kind and the numbers
+-- the number of bytes of a record of n numbers: its length, its record kind and the numbers
 unfoldable pub recordSize : ℕ → ℕ
 recordSize n = 4 + 2 * n
 
--- the bytes of a stored form with n base words and m series words
+-- the number of bytes of a stored form with n base words and m series words
 unfoldable pub formSize : ℕ → ℕ → ℕ
 formSize n m = recordSize headCount + recordSize n + recordSize m
 
@@ -34,7 +34,7 @@ writeSays (write.Refused n) = form.refused n
 unfoldable pub answerToWrite : Chart → List ℕ → WritingAnswer
 answerToWrite c buffer = require (soundChart c) (form.refused 14) (writing (stateOf c) buffer)
 
--- the buffer then; with 14, as with 15, it is as it was
+-- the buffer after writing. A refusal, with 14 or 15, does not change it
 unfoldable pub bufferAfterWrite : Chart → List ℕ → List ℕ
 bufferAfterWrite c buffer = require (soundChart c) buffer (bufferAfter (stateOf c) buffer)
 
@@ -45,7 +45,7 @@ pub record Writes (c : Chart) (before after : List ℕ) (r : WriteAnswer) : Type
 
 -- ---- reading
 
--- what the cases say, of the chart that is given with them
+-- what an answer and the chart that comes with it say
 unfoldable pub readSays : Chart → ReadAnswer → ReadingAnswer
 readSays c read.Done = taken (stateOf c)
 readSays c (read.Refused n) = refused n
@@ -55,7 +55,7 @@ unfoldable pub chartAfterReading : ReadingAnswer → Chart
 chartAfterReading (taken s) = chartOf s
 chartAfterReading (refused n) = zeroChart
 
--- r says what reading's answer a says, and its chart is the one that goes with it. The contract of reading is this of the answer that
+-- r says what the answer a says, and its chart is the one that goes with a. In the contract of reading, a is the answer that
 -- `Reading.reading` gives for the bytes
 pub record IsRead (a : ReadingAnswer) (r : ReadChart) : Type 0 where
   pub chart : r .chart ≡ chartAfterReading a
@@ -63,14 +63,14 @@ pub record IsRead (a : ReadingAnswer) (r : ReadChart) : Type 0 where
 
 -- ---- writing, and then reading the bytes that were written
 
--- 14 and 15 are writing's; a sound chart for which there is room is answered as it was
+-- writing refuses with 14 or 15. If the chart is sound and the buffer has room for it, the answer is the chart as it was
 unfoldable pub answerToReturn : Chart → List ℕ → ReadingAnswer
 answerToReturn c buffer =
     require (soundChart c) (refused 14)
     (require (hasRoom (stateOf c) buffer) (refused 15)
     (taken (stateOf c)))
 
--- the very chart, or where writing declines the chart of zeros
+-- the same chart, or the chart of zeros if writing refuses
 unfoldable pub chartReturned : Chart → List ℕ → Chart
 chartReturned c buffer = choose (soundChart c && hasRoom (stateOf c) buffer) c zeroChart
 

@@ -1,9 +1,9 @@
-// The stored form of a chart: document 01, "Stored form". Three records; every number little-endian in two bytes, words in two's
-// complement, all by arithmetic, so that the machine's own order of bytes plays no part.
+// The stored form of a chart: document 01, "Stored form". It has three records. Every number is little-endian in two bytes, and words are
+// in two's complement. The code works out the bytes by arithmetic, so the byte order of the machine plays no part.
 //
-// Writing declines, in this order: 14 a chart that is not sound, 15 a buffer shorter than the stored form; either leaves the buffer
-// as it was. Reading declines, in this order: 13 bytes that are not the three records, before any content is looked at, 14 a chart that is
-// not sound; either gives the chart of zeros.
+// Writing refuses, in this order: a chart that is not sound, with 14; a buffer shorter than the stored form, with 15. A refused write does
+// not change the buffer. Reading refuses, in this order: bytes that are not the three records, with 13; a chart that is not sound, with 14.
+// It decides 13 before it tests any content. A refused read gives the chart of zeros.
 mod numbers;
 mod reader;
 mod records;
@@ -49,14 +49,14 @@ pub struct ReadChart {
     pub answer: ReadAnswer,
 }
 
-// Where the three records of a stored form are.
+// The places of the three records of a stored form.
 enum Layout {
     Form {
         head: Place,
         base: Place,
         series: Place,
     },
-    // The bytes are no stored form.
+    // The bytes are not a stored form.
     Other,
 }
 
@@ -70,7 +70,7 @@ const SERIES_KIND: u16 = 3;
 // How many numbers the first record has: chart kind, status, open verdict.
 const HEAD_COUNT: usize = 3;
 
-// The stored form goes to the front of the buffer; the bytes after it stay.
+// Writes the stored form to the front of the buffer. The bytes after it do not change.
 pub fn write(chart: Chart, out: &mut [u8]) -> WriteAnswer
     ensures { λ r. ⌜ Writes chart (now (out .entry)) (now (out .exit)) r ⌝ }
 {
@@ -80,7 +80,7 @@ pub fn write(chart: Chart, out: &mut [u8]) -> WriteAnswer
     write_sound(chart, out)
 }
 
-// The same, of a chart that is known to be sound, as one that was just read is and the chart that a call on it gives back.
+// The same for a chart that is known to be sound: one that was just read, or one that a call on a sound chart gave back.
 pub fn write_sound(chart: Chart, out: &mut [u8]) -> WriteAnswer
     requires { ⌜ soundChart chart ≡ true ⌝ }
     ensures { λ r. ⌜ Writes chart (now (out .entry)) (now (out .exit)) r ⌝ }
@@ -91,7 +91,7 @@ pub fn write_sound(chart: Chart, out: &mut [u8]) -> WriteAnswer
     WriteAnswer::Done(put_form(chart, out))
 }
 
-// The chart whose stored form the bytes are.
+// Reads the chart that has these bytes as its stored form.
 pub fn read(bytes: &[u8]) -> ReadChart
     ensures { λ r. ⌜ IsRead (reading (now (bytes .entry))) r ⌝ }
 {
@@ -101,8 +101,8 @@ pub fn read(bytes: &[u8]) -> ReadChart
     read_form(bytes, head, base, series)
 }
 
-// Writes a chart and reads back the bytes that were written: the same chart comes. Where writing declines, its number comes with the chart
-// of zeros.
+// Writes a chart and reads the written bytes back. This gives the same chart. If writing refuses, the answer is the number of the refusal
+// with the chart of zeros.
 pub fn write_and_read(chart: Chart, out: &mut [u8]) -> ReadChart
     ensures { λ r. ⌜ Returns chart (now (out .entry)) (now (out .exit)) r ⌝ }
 {
@@ -115,7 +115,7 @@ pub fn write_and_read(chart: Chart, out: &mut [u8]) -> ReadChart
 
 // ---- writing
 
-// The bytes of the stored form of n base words and m series words.
+// The number of bytes of a stored form with n base words and m series words.
 fn form_size(n: usize, m: usize) -> usize
     requires { ⌜ (n ≤ baseMost) × (m ≤ seriesMost) ⌝ }
     ensures { λ r. ⌜ r ≡ formSize n m ⌝ }
@@ -123,8 +123,8 @@ fn form_size(n: usize, m: usize) -> usize
     record_size(HEAD_COUNT) + record_size(n) + record_size(m)
 }
 
-// The stored form of a sound chart, at the front of a buffer that has room for it. Answers its number of bytes. The first record's numbers
-// go as the words that they stand for, so that one function writes all three records.
+// Puts the stored form of a sound chart at the front of a buffer that has room for it. Answers its number of bytes. The numbers of the
+// first record are passed as the words that they stand for, so that one function writes all three records.
 fn put_form(chart: Chart, out: &mut [u8]) -> usize
     requires { ⌜ (soundChart chart ≡ true) × (formSize (chart .«base_len») (chart .«series_len») ≤ length (now out)) ⌝ }
     ensures { λ r. ⌜ Placed (now (out .entry)) 0 (storedForm (stateOf chart)) (now (out .exit)) r ⌝ }
@@ -145,7 +145,7 @@ fn put_form(chart: Chart, out: &mut [u8]) -> usize
 
 // ---- reading
 
-// Finds the three records, one behind the other, with nothing after them.
+// Finds the three records, one after the other, with nothing after them.
 fn lay_out(bytes: &[u8]) -> Layout
     ensures { λ r. ⌜ r ≡ layoutOf (now (bytes .entry)) ⌝ }
 {
@@ -182,8 +182,8 @@ fn lay_out(bytes: &[u8]) -> Layout
     Layout::Form { head, base, series }
 }
 
-// The chart that the three records hold. Its soundness is asked of the words where they were put, and the chart is made once, in its
-// place in the answer: asked of a chart, its arrays would be copied once more for the question, and again into the answer.
+// The chart that the three records hold. The soundness test runs on the two arrays into which the words were read. The chart is then made
+// once, inside the answer. A test of a chart value would copy the arrays once for the test, and once more into the answer.
 fn read_form(bytes: &[u8], head: Place, base: Place, series: Place) -> ReadChart
     requires { ⌜ layoutOf (now bytes) ≡ layout.Form head base series ⌝ }
     ensures { λ r. ⌜ IsRead (reading (now (bytes .entry))) r ⌝ }
@@ -220,7 +220,7 @@ fn read_form(bytes: &[u8], head: Place, base: Place, series: Place) -> ReadChart
     }
 }
 
-// The words of a record, into the first places of an array.
+// Puts the words of a record into the first places of an array.
 fn fill(words: &mut [i16], bytes: &[u8], place: Place)
     requires { ⌜ (place .count ≤ length (now words)) × LiesWithin (now bytes) place ⌝ }
     ensures { λ _. ⌜ now (words .exit) ≡ filledFrom (now (bytes .entry)) place (now (words .entry)) ⌝ }

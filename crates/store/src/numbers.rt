@@ -6,7 +6,7 @@ ghost use lib.ListN.{length, drop};
 ghost use Rattle.guide.specs.Bytes.{bytesOf, numberIn, numberOf, wordOf};
 ghost use Rattle.store.specs.Placed.{Placed};
 
-// The number that stands for a word. Of a word below 0, `!w` is −w − 1, which is not below 0.
+// The number that stands for a word. For a word w below 0, `!w` is −w − 1, which is not below 0.
 pub fn number_of(w: i16) -> u16
     ensures { λ r. ⌜ r ≡ numberOf w ⌝ }
 {
@@ -18,7 +18,7 @@ pub fn number_of(w: i16) -> u16
     }
 }
 
-// The word that a number stands for. From 32768 on it is below 0, and `!` of it is 65535 − n.
+// The word that a number stands for. For n from 32768 on the word is below 0, and `!` of the word is 65535 − n.
 pub fn word_of(n: u16) -> i16
     ensures { λ r. ⌜ r ≡ wordOf n ⌝ }
 {
@@ -30,7 +30,7 @@ pub fn word_of(n: u16) -> i16
     }
 }
 
-// The number at a byte.
+// The number that begins at a byte.
 pub fn number_at(bytes: &[u8], at: usize) -> u16
     requires { ⌜ at + 2 ≤ length (now bytes) ⌝ }
     ensures { λ r. ⌜ r ≡ numberIn (drop at (now (bytes .entry))) ⌝ }
@@ -40,7 +40,7 @@ pub fn number_at(bytes: &[u8], at: usize) -> u16
     lower + 256 * upper
 }
 
-// A number, from a byte of the buffer on. Answers the byte after it.
+// Puts a number into the buffer from a byte on. Answers the byte after it.
 pub fn put_number(out: &mut [u8], at: usize, n: u16) -> usize
     requires { ⌜ at + 2 ≤ length (now out) ⌝ }
     ensures { λ r. ⌜ Placed (now (out .entry)) at (bytesOf (n ∷ [])) (now (out .exit)) r ⌝ }
@@ -50,7 +50,7 @@ pub fn put_number(out: &mut [u8], at: usize, n: u16) -> usize
     at + 2
 }
 
-// Words, one behind the other, from a byte of the buffer on. Answers the byte after them.
+// Puts words into the buffer, one after the other, from a byte on. Answers the byte after them.
 pub fn put_words(out: &mut [u8], at: usize, words: &[i16]) -> usize
     requires { ⌜ at + 2 * length (now words) ≤ length (now out) ⌝ }
     ensures { λ r. ⌜ Placed (now (out .entry)) at (bytesOf (map numberOf (now (words .entry)))) (now (out .exit)) r ⌝ }

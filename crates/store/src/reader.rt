@@ -1,11 +1,11 @@
-// The reader of the stored form: a struct that holds a reference to the bytes, and a cursor in them. It is thin: it is taken apart for
-// `record_at`, which does the work on the slice and the cursor.
+// The reader of the stored form: a struct that holds a reference to the bytes, and a cursor in them. The reader is thin: `see_record` takes
+// it apart and calls `record_at`, which does the work on the slice and the cursor.
 use crate::numbers::number_at;
 ghost use mathlib.Core.Path.{_≡_};
 ghost use lib.ListN.{drop};
 ghost use Rattle.store.specs.Records.{recordIn};
 
-// The bytes of a record's length and of its record kind, which come before its numbers.
+// The number of bytes before a record's numbers. They hold its length and its record kind.
 pub const BEFORE_NUMBERS: usize = 4;
 
 pub struct Cursor {
@@ -15,7 +15,7 @@ pub struct Cursor {
 // The record kind of the record at a cursor, and how many numbers it has.
 pub enum Seen {
     Record { kind: u16, count: usize },
-    // The bytes there are no record.
+    // The bytes there are not a record.
     Nothing,
 }
 
@@ -24,7 +24,7 @@ pub struct Reader<'a> {
     pub cursor: Cursor,
 }
 
-// The record at the cursor, seen through a reader. This is what the rest of the crate calls.
+// The record at the cursor, through a reader. The rest of the crate calls this function.
 pub fn see_record_at(bytes: &[u8], cursor: Cursor) -> Seen
     ensures { λ r. ⌜ r ≡ recordIn (drop (cursor .at) (now (bytes .entry))) ⌝ }
 {
@@ -43,8 +43,8 @@ pub fn see_record<'a>(reader: Reader<'a>) -> Seen
     record_at(reader.bytes, reader.cursor)
 }
 
-// What stands at the cursor: a record whose length is that of a record kind and of numbers in two bytes each, and for which
-// there are bytes enough.
+// The record at the cursor, if there is one. Its length counts a record kind and numbers of two bytes each, so it is even and at least 2.
+// The bytes must go on for that length.
 pub fn record_at(bytes: &[u8], cursor: Cursor) -> Seen
     ensures { λ r. ⌜ r ≡ recordIn (drop (cursor .at) (now (bytes .entry))) ⌝ }
 {

@@ -17,7 +17,7 @@ ghost use Rattle.store.specs.Placed.{Placed};
 ghost use Rattle.store.specs.Records.{recordAt, numbersAt, LiesWithin};
 ghost use Rattle.store.specs.Store.{recordSize};
 
-// Where a record is in the bytes: the byte at which its first number begins, how many numbers it has, and the byte after it.
+// The place of a record in the bytes: the byte at which its first number begins, how many numbers it has, and the byte after the record.
 pub struct Place {
     pub first: usize,
     pub count: usize,
@@ -26,11 +26,11 @@ pub struct Place {
 
 pub enum Found {
     Record(Place),
-    // No record, or not the one that is looked for.
+    // There is no record, or it is not the one asked for.
     Nothing,
 }
 
-// The bytes of a record of n numbers.
+// The number of bytes of a record of n numbers.
 pub fn record_size(n: usize) -> usize
     requires { ⌜ n ≤ seriesMost ⌝ }
     ensures { λ r. ⌜ r ≡ recordSize n ⌝ }
@@ -38,7 +38,7 @@ pub fn record_size(n: usize) -> usize
     BEFORE_NUMBERS + 2 * n
 }
 
-// A record of words, from a byte of the buffer on. Answers the byte after it.
+// Puts a record of words into the buffer from a byte on. Answers the byte after it.
 pub fn put_record(out: &mut [u8], at: usize, record_kind: u16, words: &[i16]) -> usize
     requires { ⌜ (length (now words) ≤ seriesMost) × (at + recordSize (length (now words)) ≤ length (now out)) ⌝ }
     ensures { λ r. ⌜ Placed (now (out .entry)) at (recordOf «record_kind» (map numberOf (now (words .entry)))) (now (out .exit)) r ⌝ }
@@ -49,7 +49,7 @@ pub fn put_record(out: &mut [u8], at: usize, record_kind: u16, words: &[i16]) ->
     put_words(out, at_words, words)
 }
 
-// The record at the cursor, if it is of this record kind and its numbers are at least `least` and at most `most`.
+// The record at the cursor, if it has this record kind and from `least` to `most` numbers.
 pub fn find_record(
     bytes: &[u8],
     cursor: Cursor,

@@ -1,6 +1,6 @@
-// Calls of the system that the kit's `os` has not: on an open file, on a path, and a pause.
+// System calls that the kit's `os` does not have: calls on an open file, calls on a path, and a pause.
 //
-// A path is read up to its first 0. One of 4,096 bytes or more is not handed on, since a path that is cut short names another file.
+// The system reads a path up to its first 0. A path of 4,096 bytes or more is not passed on: cut short it would name another file.
 mod path;
 mod status;
 mod waiting;
@@ -15,10 +15,10 @@ use waiting::wait;
 // How long a pause is, in nanoseconds.
 const PAUSE: i64 = 5000000;
 
-// The permissions are the low twelve bits of a mode; the others say what kind of file it is.
+// The permissions are the low twelve bits of a mode. The other bits say what kind of file it is.
 const PERMISSIONS: u32 = 0o10000;
 
-// What the system says of an open file's permissions.
+// The permissions, owner and group of an open file. If they are not known, the numbers are 0.
 pub struct Permissions {
     pub known: bool,
     pub mode: u32,
@@ -26,7 +26,7 @@ pub struct Permissions {
     pub group: u32,
 }
 
-// libc::fstat. Where it fails, nothing is known, and each number is 0.
+// By libc::fstat. If it fails, nothing is known.
 pub fn permissions_of(fd: i32) -> Permissions {
     let status = status_of(fd);
     if status.answer != 0 {
@@ -45,7 +45,7 @@ pub fn permissions_of(fd: i32) -> Permissions {
     }
 }
 
-// Whether the open file still has a name: somebody may have removed it. Where that cannot be told, it counts as there.
+// Whether the open file still has a name; another process may have removed it. If libc::fstat fails, the answer is true.
 pub fn has_name(fd: i32) -> bool {
     let status = status_of(fd);
     if status.answer != 0 {
@@ -54,7 +54,7 @@ pub fn has_name(fd: i32) -> bool {
     0 < status.links
 }
 
-// libc::nanosleep. What remains after a signal is not waited for.
+// By libc::nanosleep. A signal ends the pause early.
 pub fn pause() {
     let asked = timespec {
         tv_sec: 0,
@@ -63,7 +63,7 @@ pub fn pause() {
     wait(asked, asked);
 }
 
-// libc::access.
+// libc::access on a path.
 pub fn access(path: &[u8], mode: i32) -> i32
     ensures { λ r. ⌜ Status r ⌝ }
 {

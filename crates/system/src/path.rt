@@ -1,10 +1,10 @@
-// Between a slice and text that C reads up to a 0.
+// A path as C reads it: bytes up to a 0.
 ghost use Rattle.libc.specs.Io.{Ended};
 use libc::PATH_MAX;
 
 const LAST: usize = PATH_MAX - 1;
 
-// As much of path as leaves room for a 0, and then zeros.
+// The path's first 4,095 bytes, or all of them if it is shorter, and then zeros.
 pub fn ended(path: &[u8]) -> [u8; PATH_MAX]
     ensures { λ r. ⌜ Ended r ⌝ }
 {

@@ -1,8 +1,8 @@
-// libc::fstat, which takes a struct by reference. `status_in`, which lends it one, is proved by a walk of its MIR, by hand.
+// libc::fstat takes a struct by reference. `status_in` lends it one, and is proved by hand, by a walk of its MIR.
 use libc::types::stat;
 use libc::types::timespec;
 
-// What fstat answers, and what is used of what it tells.
+// What fstat answers, and the fields of its struct that are used.
 pub struct FileStatus {
     pub answer: i32,
     pub links: u64,

@@ -1,4 +1,4 @@
-// libc::nanosleep, which takes its structs by reference. `wait`, which lends them, is proved by a walk of its MIR, by hand.
+// libc::nanosleep takes two structs by reference. `wait` lends them, and is proved by hand, by a walk of its MIR.
 use libc::types::timespec;
 
 pub fn wait(asked: timespec, mut left: timespec) {

@@ -1,4 +1,4 @@
--- Laws of the texts' lengths: each has room in 64 bytes, with one byte more behind it.
+-- Laws of the texts' lengths: each fits 64 bytes, with one more byte after it.
 use mathlib.Core.List.{List}
 use Prim.Native.Nat.{ℕ, _<_}
 use lib.Dec.{eqb, lit≤}

@@ -1,3 +1,3 @@
--- Laws of the texts: of the numbers that no arm names, and of lengths.
+-- Laws of the texts: the numbers that no arm names, and the lengths.
 mod Others
 pub mod Lengths

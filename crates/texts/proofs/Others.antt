@@ -5,7 +5,7 @@ use borrow.Author.Tests.{ne-eqb}
 use Rattle.printing.specs.Ascii.{ascii}
 use Rattle.texts.specs.Texts.{refusalMeaning, verdictMeaning}
 
--- n is none of 0 to 15, as the last arm of a match has it
+-- n is none of 0 to 15, in the form that the last arm of a match gives
 abbrev pub OtherRefusal : ℕ → Type 0
 OtherRefusal n =
     (((((((((((((((Unit {0} × (n ≡ 0 → ⊥)) × (n ≡ 1 → ⊥)) × (n ≡ 2 → ⊥)) × (n ≡ 3 → ⊥)) × (n ≡ 4 → ⊥)) × (n ≡ 5 → ⊥)) × (n ≡ 6 → ⊥)) × (n ≡ 7 → ⊥)) × (n ≡ 8 → ⊥)) × (n ≡ 9 → ⊥)) × (n ≡ 10 → ⊥)) × (n ≡ 11 → ⊥)) × (n ≡ 12 → ⊥)) × (n ≡ 13 → ⊥)) × (n ≡ 14 → ⊥)) × (n ≡ 15 → ⊥)
@@ -32,7 +32,7 @@ other-refusal n h =
       ne-eqb n 15 (h .1),
     )
 
--- n is none of 0 to 4, as the last arm of a match has it
+-- n is none of 0 to 4, in the form that the last arm of a match gives
 abbrev pub OtherVerdict : ℕ → Type 0
 OtherVerdict n =
     ((((Unit {0} × (n ≡ 0 → ⊥)) × (n ≡ 1 → ⊥)) × (n ≡ 2 → ⊥)) × (n ≡ 3 → ⊥)) × (n ≡ 4 → ⊥)

@@ -1,4 +1,4 @@
--- Laws of readings, and of the quotient that each kind forms of them.
+-- Laws of readings, and of the quotient that each kind forms from them.
 use mathlib.Core.Path.{_≡_, refl, sym}
 use mathlib.Core.Bool.{true, false, _&&_, _||_, false≢true}
 use Prim.Native.Nat.{ℕ, _+_, _*_, _≤_}
@@ -21,7 +21,7 @@ unfolding isReading
 reading-natural (pos n) h = (tt, leb-true n readingMost (both (leb 0 n) (leb n readingMost) h .1))
 reading-natural (negsuc n) h = absurd (false≢true h)
 
--- what the test of three numbers says
+-- what `areReadings` says
 pub record AllReadings (kind : ℕ) (a b c : ℤ) : Type 0 where
   pub first : isReading a ≡ true
   pub second : isReading b ≡ true
@@ -35,9 +35,9 @@ all-readings kind a b c h =
     let inner = both (isReading b) third (outer .1) in
     record { first = outer .0; second = inner .0; third = inner .1 }
 
--- ---- the quotient of each kind, of natural numbers
+-- ---- the quotient of each kind, in natural numbers
 
--- the sign and the size of an integer give it again
+-- the sign and the magnitude of an integer give the integer
 signed-is : (z : ℤ) → signed (ltZ z (pos 0)) (natAbs z) ≡ z
 signed-is (pos n) = rw (le-ltb n 0 (omega arith))
 signed-is (negsuc n) = refl

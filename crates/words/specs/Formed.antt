@@ -24,8 +24,8 @@ pub record ReadingIs (x : ℤ) (n : ℕ) : Type 0 where
   pub same : pos n ≡ x
   pub small : n ≤ guide.readingMost
 
--- q is the quotient of the paper before it is rounded, by the sign and the magnitude of its numerator. The rounded quotient fits sixty-four
--- signed bits
+-- q is the paper's quotient before rounding, with the sign and the magnitude of its numerator. The numerator is so small that the rounded
+-- quotient fits sixty-four signed bits
 pub record IsQuotient (kind : ℕ) (a b c : ℤ) (q : Quotient) : Type 0 where
   pub is-sign : q .negative ≡ ltZ (guide.numerator kind a b c) (pos 0)
   pub is-magnitude : q .numerator ≡ natAbs (guide.numerator kind a b c)

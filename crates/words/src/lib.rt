@@ -1,11 +1,10 @@
 // A word formed from a reading: document 01, "From readings to words".
 //
-// `word` forms a word alone. It declines, and this is the order: 1 a kind that is not 1..3, 5 a reading outside
-// 0..1,000,000,000, 6 a divisor of 0, 7 a word out of range. `from_reading` is the part that every reading goes through, with 5, 6 and
-// 7, and `word_for` forms the word of a reading that comes to a chart. `is_kind`, `in_range` and `all_in_range` are the kinds and the range
-// of a kind's words, for whoever builds a chart.
+// `word` forms a word alone. It refuses, in this order: 1 a kind that is not 1..3, 5 a reading outside 0..1,000,000,000, 6 a divisor of 0,
+// 7 a word out of range. Every reading goes through `from_reading`, which refuses with 5, 6 and 7. `word_for` forms the word of a reading
+// for a chart. `is_kind`, `in_range` and `all_in_range` test a kind and the range of its words, for building and soundness.
 //
-// Tests are joined by `&` and `|`, which evaluate both sides: none can overflow, and the result is the definition's own expression.
+// `&` and `|` join tests and evaluate both sides. No test can overflow, and the result is the definition's own expression.
 use extremes::extremes_of;
 ghost use mathlib.Core.Path.{_≡_};
 ghost use mathlib.Core.Bool.{true};
@@ -29,7 +28,7 @@ pub enum Formed {
     Refused(u16),
 }
 
-// A quotient that is yet to be rounded, by the sign and the magnitude of its numerator.
+// A quotient before rounding, with the sign and the magnitude of its numerator.
 struct Quotient {
     negative: bool,
     numerator: u64,
@@ -52,7 +51,7 @@ pub fn is_kind(kind: u16) -> bool
     (1 <= kind) & (kind <= 3)
 }
 
-// The word of a reading that comes to a chart: 4 for a reading of another kind, then 5, 6, 7.
+// The word of a reading for a chart. A reading of another kind than the chart is refused with 4. Then 5, 6 and 7 apply.
 pub fn word_for(chart_kind: u16, kind: u16, a: i64, b: i64, c: i64) -> Formed
     ensures { λ r. ⌜ formedSays r ≡ wordFor «chart_kind» kind a b c ⌝ }
 {
@@ -62,7 +61,7 @@ pub fn word_for(chart_kind: u16, kind: u16, a: i64, b: i64, c: i64) -> Formed
     from_reading(kind, a, b, c)
 }
 
-// The kind is 1..3 for whoever asks the paper's question; any other is taken for 3.
+// The paper's kinds are 1..3. Any other kind is treated as kind 3.
 pub fn from_reading(kind: u16, a: i64, b: i64, c: i64) -> Formed
     ensures { λ r. ⌜ formedSays r ≡ fromReading kind a b c ⌝ }
 {
@@ -90,7 +89,7 @@ pub fn in_range(kind: u16, w: i64) -> bool
     (WORD_LEAST <= w) & (w <= WORD_MOST)
 }
 
-// Every word is in the range of the kind: the least and the greatest are.
+// Every word is in the range of the kind exactly if the least and the greatest are.
 pub fn all_in_range(kind: u16, words: &[i16]) -> bool
     ensures { λ r. ⌜ r ≡ allInRange kind (now (words .entry)) ⌝ }
 {
@@ -101,7 +100,7 @@ pub fn all_in_range(kind: u16, words: &[i16]) -> bool
     word_in_range(kind, e.least) & word_in_range(kind, e.greatest)
 }
 
-// `in_range` of a word as charts hold it.
+// `in_range` for a word as charts hold it.
 fn word_in_range(kind: u16, w: i16) -> bool
     ensures { λ r. ⌜ r ≡ inRange kind w ⌝ }
 {
@@ -171,7 +170,7 @@ fn nearest(q: Quotient) -> i64
     if q.negative { -w } else { w }
 }
 
-// The whole quotient, and one more where what is left over is half of the divisor or more.
+// The whole quotient, or one more if the remainder is half of the divisor or more.
 fn nearest_natural(numerator: u64, divisor: u64) -> u64
     requires { ⌜ 0 < divisor ⌝ }
     ensures { λ r. ⌜ (r ≡ nearestNatural numerator divisor) × (r ≤ numerator) ⌝ }

@@ -1,4 +1,4 @@
--- `chart::last_of_both` meets its contract. The loop's invariant: the first of the last 15 words stand in their places.
+-- `chart::last_of_both` meets its contract. The loop's invariant: the first i of the last 15 words are in place.
 use mathlib.Core.Path.{_≡_, refl, sym, ap, _∙_}
 use mathlib.Core.List.{List, _++_}
 use Prim.Native.Nat.{ℕ, _+_, _-_, _≤_}
@@ -52,7 +52,7 @@ add-i c = omega arith
 loop-less : tie.Need-loop-less Inv-loop μ-loop
 loop-less c = omega arith
 
--- the words that are taken, and their number
+-- the words of both slices, and their last 15
 abbrev both : tie.Start Inv-loop μ-loop → List ℤ
 both c = now (c .args .base) ++ now (c .args .series)
 
@@ -65,7 +65,7 @@ all-words c = length-append (now (c .args .base)) (now (c .args .series))
 counted : (c : tie.Start Inv-loop μ-loop) → length (last c) ≡ baseWanted
 counted c = length-last-words baseWanted (both c) (omega (arith, all-words c, c .pre))
 
--- what the call gave is the next of them
+-- the call gave the next of them
 taken : (c : tie.After-word-at Inv-loop μ-loop) → let l = c .before .before in
     c .word-at .result ≡ getD (last (l .before)) (l .loop .i) (pos 0)
 taken c =

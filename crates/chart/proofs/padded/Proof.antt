@@ -1,4 +1,4 @@
--- `chart::padded` meets its contract. The loop's invariant: the words passed stand in their places.
+-- `chart::padded` meets its contract. The loop's invariant: the words before i are in place.
 use mathlib.Core.Path.{_≡_, refl, ap, _∙_}
 use Prim.Native.Nat.{_-_, _≤_}
 use native.Mathlib.Omega.{arith}

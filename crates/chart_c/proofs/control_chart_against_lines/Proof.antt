@@ -32,7 +32,7 @@ is-word-requires c κs = search needs
 abbrev begun : tie.After-is-word → tie.Start
 begun c = c .before .before .before .before .before .before
 
--- whether the number is a word
+-- the test whether the number is a word
 tested : (c : tie.After-is-word) → c .is-word .result ≡ isWord (begun c .args .word)
 tested c = rw (toZ-ofZ (begun c .fits .word)) at (c .is-word .ensures)
 

@@ -17,7 +17,7 @@ kind-of-requires c κs = search needs
 build-requires : tie.Need-build-requires
 build-requires c κs = search needs
 
--- building with the kind that stands for the one that was brought
+-- building with the kind of sixteen bits
 builds : (c : tie.After-build) → let a = c .before .before .before .args in Builds (kindOf (a .kind)) (now (a .words)) (c .build .result)
 builds c = rw (c .before .kind-of .ensures) at (c .build .ensures)
 

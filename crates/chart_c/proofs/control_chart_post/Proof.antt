@@ -22,7 +22,7 @@ held-at-front-requires c κs = search needs
 same-length : tie.Need-same-length
 same-length c = search needs
 
--- the call, as the machine is fed it, and what it comes to
+-- the call, as the machine gets it
 abbrev call : tie.Start → Call
 call c = post (c .args .kind) (c .args .a) (c .args .b) (c .args .c)
 
@@ -55,7 +55,7 @@ post-sound-requires c κs = taken (c .before) .chart-sound
 enum-known-answer : tie.Need-enum-known-answer
 enum-known-answer c = search needs
 
--- the call with the kind that stands for the one that was brought
+-- the call with the kind of sixteen bits
 abbrev made : tie.After-kind-of → Call
 made c = let a = begun (c .before .before .before) .args in post (c .kind-of .result) (a .a) (a .b) (a .c)
 
@@ -72,7 +72,7 @@ gives c =
     let fits = begun (c .before .before .before .before) .fits in
     rw (toZ-ofZ (fits .a), toZ-ofZ (fits .b), toZ-ofZ (fits .c)) at (c .post-sound .ensures)
 
--- a call that is not declined by the machine comes to its word and verdict, if there is room for the chart after it
+-- a call that the machine does not refuse gives the machine's word and verdict, if there is room for the chart after it
 came : (c : tie.After-known-told) → let posted = c .before .before .before .before in
     let a = begun (posted .before .before .before .before) .args in
     let given = c .before .answer .given .0 in

@@ -20,7 +20,7 @@ held-at-front-requires c κs = search needs
 same-length : tie.Need-same-length
 same-length c = search needs
 
--- the call, as the machine is fed it, and what it comes to
+-- the call, as the machine gets it
 abbrev call : tie.Start → Call
 call c = reanalysis (c .args .kind) (c .args .a) (c .args .b) (c .args .c)
 
@@ -53,7 +53,7 @@ reanalyse-sound-requires c κs = taken (c .before) .chart-sound
 enum-known-answer : tie.Need-enum-known-answer
 enum-known-answer c = search needs
 
--- the call with the kind that stands for the one that was brought
+-- the call with the kind of sixteen bits
 abbrev made : tie.After-kind-of → Call
 made c = let a = begun (c .before .before .before) .args in reanalysis (c .kind-of .result) (a .a) (a .b) (a .c)
 

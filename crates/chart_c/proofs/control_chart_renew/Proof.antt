@@ -45,7 +45,7 @@ renew-sound-requires c κs = taken c .chart-sound
 enum-known-answer : tie.Need-enum-known-answer
 enum-known-answer c = search needs
 
--- a call that is not declined by the machine comes to its rounds and number removed, if there is room for the chart after it
+-- a call that the machine does not refuse gives the machine's rounds and number removed, if there is room for the chart after it
 came : (c : tie.After-known-told) → let renewed-by = c .before .before .before .before in
     let a = begun (renewed-by .before .before .before) .args in
     let given = c .before .answer .given .0 in

@@ -22,7 +22,7 @@ enum-known-formed c = search needs
 enum-known-formed-2 : tie.Need-enum-known-formed-2
 enum-known-formed-2 c = search needs
 
--- what was formed is the word of the kind that was brought
+-- what was formed is the word of the kind that was passed
 formed : (c : tie.After-word) → let a = c .before .before .args in formedSays (c .word .result) ≡ wordAlone (a .kind) (a .a) (a .b) (a .c)
 formed c =
     let start = c .before .before in

@@ -1,4 +1,4 @@
--- `commands::perform` meets its contract: by the name.
+-- `commands::perform` meets its contract, by the command's name.
 use mathlib.Core.Path.{refl}
 use borrow.Author.Needs.{needs}
 use Rattle.commands.specs.Command.{commandFor}

@@ -1,5 +1,5 @@
--- `extremes::extremes_of` meets its contract. The loop's invariant, for the least as for the greatest: what is picked of what the words
--- passed left, and of the words that remain, is what is picked of all.
+-- `extremes::extremes_of` meets its contract. The loop's invariant, for the least and for the greatest: the word picked so far and the
+-- words that remain give what all words give.
 use mathlib.Core.Path.{_≡_}
 use Prim.Native.Nat.{_-_, _≤_}
 use native.Mathlib.Omega.{arith}

@@ -1,4 +1,4 @@
--- `limits::magnitude` meets its contract: by the sign, `!z` and one more, or z itself.
+-- `limits::magnitude` meets its contract: `!z` and one more for a negative z, else z itself.
 use mathlib.Core.Path.{ap}
 use native.Mathlib.Omega.{arith}
 use lib.IntN.{natAbs}

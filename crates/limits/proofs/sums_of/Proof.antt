@@ -1,4 +1,4 @@
--- `limits::sums_of` meets its contract. The loop's invariant: the sums are those of the words passed.
+-- `limits::sums_of` meets its contract. The loop's invariant: the sums are those of the words before i.
 use Prim.Native.Nat.{_≤_, _<_, _-_}
 use native.Mathlib.Omega.{arith}
 use borrow.Author.Needs.{needs, sfits-of}
@@ -26,7 +26,7 @@ mul-with-word c = search needs
 shared-slice-copy-out-with-word : tie.Need-shared-slice-copy-out-with-word Inv-loop μ-loop
 shared-slice-copy-out-with-word c = search needs
 
--- the words passed are as many as the count says, and fewer than all
+-- the sums count fewer than 32 words inside the loop
 passed : (c : tie.In-loop Inv-loop μ-loop) → c .before .loop .s .n < baseMost
 passed c =
     let l = c .before .loop in

@@ -9,7 +9,7 @@ use Rattle.limits.proofs.Spread.{nq-small, v-is, sum-fits}
 use Rattle.limits.proofs.v_of.Statement.{statement}
 use Rattle.limits.proofs.v_of.Tie as tie
 
--- the sum's square, as the call gave it
+-- the square of T, from the call's answer
 square : (c : tie.After-magnitude) → let t = c .before .before .args .s .t in
     c .magnitude .result * c .magnitude .result ≡ natAbs t * natAbs t
 square c =

@@ -24,7 +24,7 @@ add-t5 c = let a = c .before .before .before in sum-with (a .args .s) (a .pre .1
 square-requires : tie.Need-square-requires
 square-requires c κs = search needs
 
--- what the call gave is the word's square
+-- the call gave the square of the word
 square : (c : tie.After-square) → c .square .result ≡ squareOf (c .before .before .before .before .args .w)
 square c = c .square .ensures ∙ ap squareOf (toZ-ofZ (c .before .before .before .before .fits .w))
 

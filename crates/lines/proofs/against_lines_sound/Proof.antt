@@ -1,4 +1,4 @@
--- `lines::against_lines_sound` meets its contract: the word is compared with the limits themselves.
+-- `lines::against_lines_sound` meets its contract: it compares the word with the limits themselves.
 use borrow.Author.Needs.{needs}
 use Rattle.lines.proofs.ChartLines.{limits-compared}
 use Rattle.lines.proofs.against_lines_sound.Statement.{statement}

@@ -1,4 +1,4 @@
--- `lists::run_calls` meets its contract. The loop's invariant: what the calls that are left give, after those made, is what all give.
+-- `lists::run_calls` meets its contract. The loop's invariant: the calls made, followed by those that are left, give what all calls give.
 use Prim.Native.Nat.{_+_, _-_, _≤_}
 use native.Mathlib.Omega.{arith}
 use lib.ListN.{length}

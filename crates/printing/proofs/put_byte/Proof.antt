@@ -1,4 +1,4 @@
--- `printing::put_byte` meets its contract: the byte is put where there is room, and left out otherwise.
+-- `printing::put_byte` meets its contract: the byte is put if there is room, and left out otherwise.
 use borrow.Author.Needs.{needs}
 use denote.Ref.{now}
 use Rattle.printing.proofs.Putting.{puts-byte, puts-left-out}

@@ -14,7 +14,7 @@ use Rattle.replies.proofs.put_chart.Tie as tie
 series-places : (c : tie.Start) → length (c .args .chart .series) ≡ seriesMost
 series-places c = search needs
 
--- the base, and the series, as many words as are shown
+-- the words of the base and of the series that are shown
 base-shown : (c : tie.After-smaller)
     → let chart = c .before .before .before .before .before .before .before .before .before .before .before .before .before .before .before .before .before .before .args .chart in FirstWords (chart .«base_len») (c .smaller .result) (chart .base)
 base-shown c = first-words baseMost _ _ _ (search needs) (c .smaller .ensures)

@@ -1,4 +1,4 @@
--- `replies::put_named` meets its contract: the name, and the number behind it.
+-- `replies::put_named` meets its contract: the name, and the number after it.
 use borrow.Author.Needs.{needs}
 use Rattle.printing.proofs.Putting.{puts-then}
 use Rattle.replies.proofs.put_named.Statement.{statement}

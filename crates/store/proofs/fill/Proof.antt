@@ -1,5 +1,5 @@
--- `store::fill` meets its contract. Invariant: the first i places of the array hold the words of the first i numbers, and the others are as
--- they were.
+-- `store::fill` meets its contract. Invariant: the first i places of the array hold the words of the first i numbers, and the others have
+-- not changed.
 use borrow.Author.Needs.{needs, sfits-of}
 use mathlib.Core.Path.{_≡_, refl, ap, _∙_}
 use mathlib.Core.List.{_++_, map}

@@ -13,7 +13,7 @@ use Rattle.store.proofs.RecordsIn.{no-head, no-base, no-series, bytes-l
 use Rattle.store.proofs.lay_out.Statement.{statement}
 use Rattle.store.proofs.lay_out.Tie as tie
 
--- the head record, where it was found
+-- the head record, if it was found
 abbrev bytes : tie.After-head → List ℕ
 bytes c = c .before .before .before .before .args .bytes .now
 

@@ -1,4 +1,4 @@
--- `store::put_form` meets its contract: the three records go one behind the other, each where the one before it ends.
+-- `store::put_form` meets its contract: each of the three records begins where the one before it ends.
 use borrow.Author.Needs.{needs, sfits-of}
 use native.Mathlib.Omega.{arith}
 use mathlib.Core.Path.{_≡_, sym, _∙_}
@@ -18,7 +18,7 @@ use Rattle.store.proofs.put_form.Tie as tie
 sound-chart : (c : tie.Start) → Given (c .args .chart)
 sound-chart c = given (c .args .chart) (search needs) (search needs) (c .pre .0)
 
--- the room that there is, as numbers
+-- the room in the buffer, in numbers
 room : (c : tie.Start)
     → (4 + 2 * headCount) + (4 + 2 * c .args .chart .«base_len») + (4 + 2 * c .args .chart .«series_len») ≤ length (c .args .out .now)
 unfolding formSize recordSize

@@ -1,4 +1,4 @@
--- `store::read` meets its contract: no layout is 13, and what follows one that was found is `read_form`'s.
+-- `store::read` meets its contract: without a layout it refuses with 13, and with one it answers what `read_form` answers.
 use borrow.Author.Needs.{needs}
 use mathlib.Core.Path.{_≡_, sym, _∙_}
 use Rattle.store.specs.Records.{layoutOf}

@@ -1,4 +1,4 @@
--- `store::read_form` meets its contract: the places are those of the three records, and the chart holds what they hold.
+-- `store::read_form` meets its contract: the places are those of the three records, and the chart holds what the records hold.
 use mathlib.Core.Path.{_≡_, sym}
 use mathlib.Core.Bool.{true}
 use Prim.Native.Nat.{_≤_}
@@ -35,7 +35,7 @@ nth-number-requires-3 c κs =
 slice-aggregate-fill : tie.Need-slice-aggregate-fill
 slice-aggregate-fill c = search needs
 
--- where the numbers of the head were read
+-- the start of the call, from the point after the numbers of the head record were read
 abbrev begun : tie.After-nth-number3 → tie.Start
 begun c = c .before .before .before .before
 
@@ -52,7 +52,7 @@ fill-requires-2 c κs =
     let start = begun (c .before .before .before .before) in
     (series-few _ _ _ _ (laid start), series-within _ _ _ _ (laid start))
 
--- the base's array has a place for each of its words, so that as many are taken of it
+-- the base's array has a place for each of the base words, so a slice of that many words can be taken
 base-room : (c : tie.After-fill) → begun (c .before .before) .args .base .count ≤ length (c .fill .last .0)
 base-room c = filled-room _ _ _ _ (c .fill .ensures)
 
@@ -79,7 +79,7 @@ is-sound-requires c κs =
 declined-read-requires : tie.Need-declined-read-requires
 declined-read-requires c κs = search needs
 
--- what was read stands in the chart that the records hold
+-- what was read makes the chart that the records hold
 chart-is : (c : tie.After-fill2) → let base = c .before .before .before in
     let verdict = base .before .before in
     let a = begun verdict .args in

@@ -1,4 +1,4 @@
--- `store::write_and_read` meets its contract: what was written is the form of a sound chart, which is read as that chart.
+-- `store::write_and_read` meets its contract: what was written is the form of a sound chart, and reading it gives that chart.
 use borrow.Author.Needs.{needs}
 use mathlib.Core.Path.{_≡_}
 use lib.ListN.{length}
@@ -15,7 +15,7 @@ write-requires c κs = search needs
 enum-known-written : tie.Need-enum-known-written
 enum-known-written c = search needs
 
--- what writing answered and left, where it was not declined
+-- what writing answered and left, if it did not refuse
 wrote : (c : tie.After-known-told)
     → (let call = c .before .before .before .before .before in
     let start = call .before .before .before in

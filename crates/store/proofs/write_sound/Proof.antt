@@ -1,4 +1,4 @@
--- `store::write_sound` meets its contract: a law of writing for each return.
+-- `store::write_sound` meets its contract, by a law of writing for each return.
 use borrow.Author.Needs.{needs}
 use native.Mathlib.Omega.{arith}
 use Rattle.chart.proofs.State.{Given, given}

@@ -1,4 +1,4 @@
--- `words::all_in_range` meets its contract: a word between two in range is in range, so the least and the greatest word decide.
+-- `words::all_in_range` meets its contract: a word between two words in range is in range too, so the least and the greatest word decide.
 use mathlib.Core.Path.{sym}
 use native.Mathlib.Omega.{arith}
 use borrow.Author.Needs.{needs, sfits-of}

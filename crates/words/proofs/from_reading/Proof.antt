@@ -28,7 +28,7 @@ quotient-at c = c .before .before .before .before
 abbrev start-at : tie.After-in-range → tie.Start
 start-at c = quotient-at c .before .before .before
 
--- what the calls and the tests say of the arguments
+-- what the calls and the tests say about the arguments
 readings-tested : (c : tie.After-are-readings) → c .are-readings .result ≡ given areReadings (c .before)
 readings-tested c =
     let fits = c .before .fits in
@@ -48,7 +48,7 @@ word-fits c = record { sfits = c .nearest .ok }
 range-tested : (c : tie.After-in-range) → c .in-range .result ≡ inRange (start-at c .args .kind) (c .before .nearest .result)
 range-tested c = rw (toZ-ofZ (word-fits (c .before))) at (c .in-range .ensures)
 
--- where 5 and 6 are not the answer, the test of the range decides
+-- if 5 and 6 do not apply, the test of the range decides
 answer : (c : tie.After-in-range)
     → given fromReading (start-at c) ≡ require (c .in-range .result) (refused 7) (formed (c .before .nearest .result))
 unfolding fromReading roundedQuotient
@@ -92,7 +92,7 @@ returns-3 : tie.Need-returns-3
 unfolding formedSays
 returns-3 c = rw (answer (c .before), not-true (c .before .in-range .result) (c .if3 .taken))
 
--- a word in range is kept by the cast
+-- the cast does not change a word in range
 in-range : (c : tie.Else3) → c .before .in-range .result ≡ true
 in-range c = not-false (c .before .in-range .result) (c .if3 .left)
 

@@ -19,7 +19,7 @@ nearest-natural-requires c κs = search needs
 cast-w : tie.Need-cast-w
 cast-w c = search needs
 
--- the magnitude and its negation, as the machine holds them
+-- the magnitude and its negation, as the computer holds them
 held : (c : tie.After-nearest-natural) → toZ w64 (c .nearest-natural .result) ≡ pos (c .nearest-natural .result)
 held c = toZ-pos w64 (omega arith)
 

@@ -11,7 +11,7 @@ use Rattle.chart.proofs.Chart.correct_sound.Tie as tie
 status-refusal-requires : tie.Need-status-refusal-requires
 status-refusal-requires c κs = search needs
 
--- the number that the call is declined for
+-- the number of the call's refusal, or 0
 number : (c : tie.After-status-refusal) → let self = c .before .args .self in
     c .status-refusal .result ≡ refusalOn self (correctionRefusal (stateOf self))
 unfolding correctionRefusal stateOf

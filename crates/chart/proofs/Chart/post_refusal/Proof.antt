@@ -19,7 +19,7 @@ use Rattle.chart.proofs.Chart.post_refusal.Tie as tie
 status-refusal-requires : tie.Need-status-refusal-requires
 status-refusal-requires c κs = search needs
 
--- what is asked after the status
+-- what is tested after the status
 abbrev rest : tie.Start → ℕ
 rest c = let s = stateOf (c .args .self) in require (ltb (length (s .series)) seriesMost) 9 0
 
@@ -31,7 +31,7 @@ returns c =
     let number = c .before .status-refusal in
     status-declines self (number .result) 7 (rest start) (eqb (self .status) 0) (number .ensures) (c .if1 .taken)
 
--- the rest decides
+-- the status is 0, so the rest decides
 allowed : (c : tie.Else1) → let self = c .before .before .args .self in
     Within self × (rest (c .before .before) ≡ refusalOn self (postRefusal (stateOf self)))
 unfolding postRefusal stateOf

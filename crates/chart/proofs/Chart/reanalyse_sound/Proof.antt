@@ -20,18 +20,18 @@ use Rattle.chart.proofs.Calls.{Accepted, reading-declined, reading-take
 use Rattle.chart.proofs.Chart.reanalyse_sound.Statement.{statement}
 use Rattle.chart.proofs.Chart.reanalyse_sound.Tie as tie
 
--- the call, as the machine is fed it
+-- the call, as the machine gets it
 abbrev call : tie.Start → Call
 call c = reanalysis (c .args .kind) (c .args .a) (c .args .b) (c .args .c)
 
--- the arrays are as long as the type says
+-- the arrays have the lengths that the type says
 places : (c : tie.Start) → let self = c .args .self in (length (self .base) ≡ baseMost) × (length (self .series) ≡ seriesMost)
 places c = (search needs, search needs)
 
 status-refusal-requires : tie.Need-status-refusal-requires
 status-refusal-requires c κs = search needs
 
--- the number that the call is declined for
+-- the number of the call's refusal before its reading, or 0
 number : (c : tie.After-status-refusal) → let self = c .before .args .self in
     c .status-refusal .result ≡ refusalOn self (reanalysisRefusal (stateOf self))
 unfolding reanalysisRefusal stateOf
@@ -40,7 +40,7 @@ number c = c .status-refusal .ensures
 word-unless-requires : tie.Need-word-unless-requires
 word-unless-requires c κs = search needs
 
--- what the reading gives, where nothing declines the call before
+-- what the reading gives, if the call is not refused before it
 formed : (c : tie.After-word-unless) → let n = c .before .status-refusal .result in let a = c .before .before .args in
     formedSays (c .word-unless .result) ≡ wordUnless n (a .self .kind) (a .kind) (a .a) (a .b) (a .c)
 formed c =
@@ -57,7 +57,7 @@ word-of c = c .before .formed .given .0 .0
 word-fits : (c : tie.After-known-told) → SFits w16 (word-of c)
 word-fits c = sfits-of (c .known-told .given .0 .1)
 
--- the call is not declined, and the reading gives the word
+-- the call is not refused, and the reading gives the word
 taken : (c : tie.After-known-told) → let start = c .before .before .before .before .before in let a = start .args in
     Accepted (a .self) (call start) × (wordFor (a .self .kind) (a .kind) (a .a) (a .b) (a .c) ≡ word.formed (word-of c))
 unfolding formedSays stateOf

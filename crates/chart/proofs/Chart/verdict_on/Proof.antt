@@ -33,7 +33,7 @@ array-set-from-series c = search needs
 add-after : tie.Need-add-after
 add-after c = search needs
 
--- the series as it is judged, in the places of a series
+-- the array of the series with the new word, which is judged
 abbrev places : tie.Start → List ℤ
 places c = let self = c .args .self in set (self .series) (self .«series_len») (toZ w16 (ofZ w16 (c .args .w)))
 
@@ -54,7 +54,7 @@ slice-aggregate-verdict c =
 verdict-requires : tie.Need-verdict-requires
 verdict-requires c κs = c .before .before .limits .ensures .bounded
 
--- as many words as the chart says and one more are the series with the word added
+-- the first series_len + 1 places hold the series with the word added
 judged : (c : tie.Start) → let self = c .args .self in
     take (self .«series_len» + 1) (places c) ≡ addWord (stateOf self) (c .args .w) .series
 unfolding addWord stateOf

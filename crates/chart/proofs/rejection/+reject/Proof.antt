@@ -1,4 +1,4 @@
--- `chart::rejection::reject` meets its contract. The measure is the number of words: a round that removes some leaves fewer.
+-- `chart::rejection::reject` meets its contract. The measure is the number of words: a round that removes words leaves fewer.
 use mathlib.Core.Path.{_≡_, sym, _∙_}
 use mathlib.Core.List.{List}
 use Prim.Native.Nat.{ℕ, _+_, _<_, _≤_}
@@ -27,12 +27,12 @@ reject-at t = and 0 reject-kinds.ps (is 0 reject-kinds.ps μ-reject t) reject.Pr
 abbrev reject-below : ℕ → In 0 reject-kinds.ps
 reject-below t = and 0 reject-kinds.ps (falls 0 reject-kinds.ps _<_ μ-reject t) reject.Pre
 
--- what the calls ask and give: a round, and rejection of fewer words
+-- what the calls require and give: a round, and rejection of fewer words
 abbrev claims : ℕ → reject-lts.Claims
 claims t = (after-round-reads.Asked, after-round-reads.Learnt, reject-below t, reject.Post)
 
 module _ (t : ℕ) where
-  -- the words given, and how many they are
+  -- the words given, and their number
   abbrev words : reject-lts.Start (claims t) (reject-at t) reject.Post → List ℤ
   words c = take (c .args .n) (c .args .words)
 
@@ -67,7 +67,7 @@ module _ (t : ℕ) where
       let start = c .before .before .before in
       (omega (arith, left-fewer (c .before), start .pre .0), omega (arith, left-fewer (c .before), start .pre .1))
 
-  -- the rounds and removals after it are few
+  -- the rounds after it, and their removals, are few
   small : (c : reject-lts.After-reject (claims t) (reject-at t) reject.Post)
       → (c .reject .result .rounds ≤ baseMost + 1) × (c .reject .result .removed ≤ baseMost)
   small c =

@@ -1,4 +1,4 @@
--- `chart::rejection::marks_beyond` meets its contract. The loop's invariant: the marks of the words passed stand in their places.
+-- `chart::rejection::marks_beyond` meets its contract. The loop's invariant: the marks of the words before i are in place.
 use mathlib.Core.Path.{_≡_, refl, sym, ap, _∙_}
 use mathlib.Core.Bool.{Bool, false}
 use mathlib.Core.List.{List, map}

@@ -1,4 +1,4 @@
--- `chart::rejection::without_marked` meets its contract. The loop's invariant: the words passed that are not marked stand together.
+-- `chart::rejection::without_marked` meets its contract. The loop's invariant: the unmarked words before i stand at the front.
 use mathlib.Core.Path.{_≡_, refl, ap, _∙_}
 use mathlib.Core.Logic.{⊎-elim}
 use mathlib.Core.Bool.{false}
@@ -45,7 +45,7 @@ words-all c = search needs
 marks-all : (c : tie.Start Inv-loop μ-loop) → length (c .args .t3) ≡ baseMost
 marks-all c = search needs
 
--- no more words stand than were passed
+-- no more words are kept than were read
 few : (c : tie.In-loop Inv-loop μ-loop) → c .before .loop .kept ≤ c .before .loop .i
 few c =
     let start = c .before .before in

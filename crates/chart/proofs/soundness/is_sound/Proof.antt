@@ -21,7 +21,7 @@ status-fits-requires c κs = c .before .limits-of .ensures .bounded
 words-sound-requires : tie.Need-words-sound-requires
 words-sound-requires c κs = search needs
 
--- the limits that were worked out are those of the base
+-- the limits are those of the base
 own : (c : tie.After-limits-of) → let a = c .before .args in limitsSay (c .limits-of .result) ≡ limitsOf (a .kind) (now (a .base))
 own c = c .limits-of .ensures .same
 

@@ -1,4 +1,4 @@
--- `chart::soundness::zero_from` meets its contract. The loop's invariant: the places from n on hold 0 exactly if those that remain do.
+-- `chart::soundness::zero_from` meets its contract. The loop's invariant: the places from n on hold 0 exactly if those from i on do.
 use mathlib.Core.Path.{_≡_, refl, sym, _∙_}
 use Prim.Native.Nat.{_-_}
 use native.Mathlib.Omega.{arith}

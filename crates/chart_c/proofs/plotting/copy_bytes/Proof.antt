@@ -1,4 +1,4 @@
--- `chart_c::plotting::copy_bytes` meets its contract. Invariant: the first i bytes stand at the front, and the rest is as it was.
+-- `chart_c::plotting::copy_bytes` meets its contract. Invariant: the first i bytes are at the front, and the rest is as it was.
 use mathlib.Core.Path.{_≡_, refl}
 use mathlib.Core.List.{_++_}
 use Prim.Native.Nat.{_-_, _≤_}

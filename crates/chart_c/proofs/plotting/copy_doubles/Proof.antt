@@ -1,4 +1,4 @@
--- `chart_c::plotting::copy_doubles` meets its contract. Invariant: the first i doubles stand at the front, and the rest is as it was.
+-- `chart_c::plotting::copy_doubles` meets its contract. Invariant: the first i doubles are at the front, and the rest is as it was.
 use mathlib.Core.Path.{_≡_, refl}
 use mathlib.Core.List.{_++_}
 use Prim.Native.Nat.{_-_, _≤_}

@@ -1,4 +1,4 @@
--- `commands::faults::words_fault` meets its contract. The loop's invariant: no word before the number in hand has a fault.
+-- `commands::faults::words_fault` meets its contract. The loop's invariant: no word before the present number has a fault.
 use borrow.Author.Needs.{needs}
 use Rattle.commands.proofs.Fields.{remaining, less-remains}
 use Rattle.commands.proofs.FirstFault.{FaultsFrom, faults-start, fault-here, faults-more, faults-end}

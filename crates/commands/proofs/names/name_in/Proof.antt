@@ -6,7 +6,7 @@ use Rattle.commands.proofs.NamesTried.{names, NameAmong, among-all, fou
 use Rattle.commands.proofs.names.name_in.Statement.{statement}
 use Rattle.commands.proofs.names.name_in.Tie as tie
 
--- the call's start, and what is known behind a name that the text is not
+-- the call's start, and what is known after the text was found not to be a name
 
 abbrev start-1 : tie.Else1 → tie.Start
 start-1 c = c .before .before .before .before

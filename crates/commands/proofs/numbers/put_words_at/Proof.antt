@@ -1,4 +1,4 @@
--- `commands::numbers::put_words_at` meets its contract. The loop's invariant: the words before the number in hand are put.
+-- `commands::numbers::put_words_at` meets its contract. The loop's invariant: the words before the present number are put.
 use mathlib.Core.Path.{_∙_}
 use Prim.Native.Nat.{_<_}
 use borrow.Author.Needs.{needs, sfits-of}
@@ -27,7 +27,7 @@ loop-holds c =
 word-of-requires : tie.Need-word-of-requires Inv-loop μ-loop
 word-of-requires c κs = search needs
 
--- the word in hand has its place in the buffer
+-- the buffer has a place for the present word
 room-here : (c : tie.After-word-of Inv-loop μ-loop) → c .before .before .loop .count < length (c .before .before .loop .words)
 room-here c =
     let l = c .before .before in

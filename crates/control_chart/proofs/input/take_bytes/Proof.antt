@@ -21,7 +21,7 @@ Inv-loop bytes line₀ kept₀ at₀ line kept at = (kept .len ≤ length line) 
 abbrev μ-loop : tie.MeasureT-loop
 μ-loop bytes line₀ kept₀ at₀ line kept at = length bytes - at
 
--- the next line begins behind this one, and within the bytes
+-- the next line begins after this one, and within the bytes
 next-line : (c : tie.After-after-line-feed Inv-loop μ-loop) → let l = c .before .before .before .before .before .before .before .before in
     (l .loop .at < c .after-line-feed .result) × (c .after-line-feed .result ≤ length (now (l .before .before .before .args .bytes)))
 next-line c =
@@ -30,7 +30,7 @@ next-line c =
     behind-feed (l .loop .at) (found .find .result) _ (c .after-line-feed .result)
     (omega (arith, found .find .ensures)) (omega (arith, found .find .ensures)) (omega arith) (c .after-line-feed .ensures)
 
--- what is held follows up to there
+-- what the program holds follows up to there
 part-taken : (c : tie.After-after-line-feed Inv-loop μ-loop) →
     let part = c .before .before .before in
     let l = part .before .before .before .before .before in

@@ -11,7 +11,7 @@ use Rattle.limits.specs.Sums.{limitsSay}
 use Rattle.judging.proofs.reanalysis.passes_verdict.Statement.{statement}
 use Rattle.judging.proofs.reanalysis.passes_verdict.Tie as tie
 
--- the verdicts that are not the open one
+-- the open verdict is not 2, and then not 3
 not-two : (c : tie.Else1) → eqb (c .before .args .open-verdict) 2 ≡ false
 not-two c = ne-eqb (c .before .args .open-verdict) 2 (c .if1 .left)
 

@@ -19,7 +19,7 @@ held-count-requires c κs = search needs
 none-beyond-control-requires : tie.Need-none-beyond-control-requires
 none-beyond-control-requires c κs = search needs
 
--- the words that have to lie within are no more than the series has
+-- the series has at least as many words as are tested
 few : (c : tie.After-held-count) → c .held-count .result ≤ length (now (c .before .args .series))
 few c = let a = c .before .args in held-few (a .status) (c .held-count .result) (length (now (a .series))) (c .held-count .ensures)
 

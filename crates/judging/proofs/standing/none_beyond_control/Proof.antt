@@ -1,5 +1,5 @@
--- `judging::standing::none_beyond_control` meets its contract: a word between two within the control limits is within, so the least and
--- the greatest word decide.
+-- `judging::standing::none_beyond_control` meets its contract: a word between two words within the control limits is within them too, so
+-- the least and the greatest word decide.
 use mathlib.Core.Path.{sym, ap}
 use mathlib.Core.Bool.{Bool, not}
 use native.Mathlib.Omega.{arith}
@@ -15,7 +15,7 @@ use Rattle.extremes.proofs.Picking.{answers-decide}
 use Rattle.judging.proofs.standing.none_beyond_control.Statement.{statement}
 use Rattle.judging.proofs.standing.none_beyond_control.Tie as tie
 
--- a word that is not beyond passes
+-- a word passes if it is not beyond a control limit
 abbrev test : tie.Start → ℤ → Bool
 test c w = not (beyondControl (limitsSay (c .args .l)) w)
 

@@ -1,5 +1,5 @@
--- `judging::verdict::orders_of` meets its contract. The loop's invariant, for rising as for falling: what the words before i showed, and
--- what the words from the one before i on show, together is what all words show.
+-- `judging::verdict::orders_of` meets its contract. The loop's invariant, for rising and for falling: the result for the words before i,
+-- joined with the result for the words from i − 1 on, is the result for all words.
 use mathlib.Core.Path.{_≡_, refl}
 use mathlib.Core.Bool.{_&&_}
 use Prim.Native.Nat.{_+_, _-_, _≤_}

@@ -1,5 +1,5 @@
--- `judging::verdict::sides_of` meets its contract. The loop's invariant, for above as for below: what the words before i showed, and what
--- the words from i on show, together is what all words show.
+-- `judging::verdict::sides_of` meets its contract. The loop's invariant, for above and for below: the result for the words before i, joined
+-- with the result for the words from i on, is the result for all words.
 use mathlib.Core.Path.{_≡_, refl}
 use mathlib.Core.Bool.{_&&_}
 use Prim.Native.Nat.{_-_}

@@ -16,7 +16,7 @@ use Rattle.judging.proofs.verdict.verdict.Tie as tie
 abbrev given {ℓ} : {X : Type ℓ} → (Limits → List ℤ → X) → tie.Start → X
 given f start = f (limitsSay (start .args .l)) (now (start .args .series))
 
--- the tests that failed before a test is asked
+-- the tests that failed before the next test runs
 control-fails : (c : tie.Else1) → given controlTest (c .before .before) ≡ false
 control-fails c = sym (c .before .control-test .ensures) ∙ c .if1 .left
 
@@ -26,7 +26,7 @@ warning-fails c = sym (c .before .warning-test .ensures) ∙ c .if2 .left
 trend-fails : (c : tie.Else3) → trendTest (now (c .before .before .before .before .before .before .args .series)) ≡ false
 trend-fails c = sym (c .before .trend-test .ensures) ∙ c .if3 .left
 
--- where the first three failed, the fourth decides
+-- if the first three tests fail, the fourth decides
 side-decides : (c : tie.After-side-test)
     → given verdict (c .before .before .before .before .before .before .before) ≡ choose (c .side-test .result) 4 0
 unfolding verdict firstVerdict

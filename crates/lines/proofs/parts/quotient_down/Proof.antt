@@ -1,4 +1,4 @@
--- `lines::parts::quotient_down` meets its contract: by the sign, `!` of the quotient of `!z`, or the quotient of z itself.
+-- `lines::parts::quotient_down` meets its contract: `!` of the quotient of `!z` if z is below 0, and the quotient of z otherwise.
 use Prim.Native.Nat.{_-_}
 use native.Mathlib.Omega.{arith}
 use borrow.Author.Needs.{needs}

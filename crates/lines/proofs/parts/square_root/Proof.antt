@@ -1,4 +1,4 @@
--- `lines::parts::square_root` meets its contract. The loop's invariant: the guess is not below the root. It falls at each turn.
+-- `lines::parts::square_root` meets its contract. The loop's invariant: the guess is not below the root. The guess falls at each turn.
 use native.Mathlib.Omega.{arith}
 use lib.Count.{leading-le}
 use Rattle.guide.proofs.SquareRoot.{root-only}

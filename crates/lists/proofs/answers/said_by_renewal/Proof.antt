@@ -15,7 +15,7 @@ use Rattle.lists.proofs.answers.said_by_renewal.Tie as tie
 enum-known-answer : tie.Need-enum-known-answer
 enum-known-answer c = search needs
 
--- the counts, which the contract has small
+-- the counts are small, by the contract
 small : (c : tie.After-known-told) → let given = c .before .answer .given in
     (given .0 .0 ≤ suc baseWanted) × (given .0 .1 .0 ≤ baseWanted)
 unfolding renewalSays

@@ -1,4 +1,4 @@
--- `lists::calls::are_calls` meets its contract. The loop's invariant: the numbers are calls where those that are left are.
+-- `lists::calls::are_calls` meets its contract. The loop's invariant: the numbers are calls exactly if those that are left are.
 use mathlib.Core.Path.{_≡_, refl, sym, ap, _∙_}
 use Prim.Native.Nat.{_-_, _≤_}
 use native.Mathlib.Omega.{arith}

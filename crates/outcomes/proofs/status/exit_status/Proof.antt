@@ -9,7 +9,7 @@ use Rattle.outcomes.specs.Status.{statusOf}
 use Rattle.outcomes.proofs.status.exit_status.Statement.{statement}
 use Rattle.outcomes.proofs.status.exit_status.Tie as tie
 
--- the texts that it does not begin with
+-- the texts that the answer does not begin with
 no-error : (c : tie.Else1) → begins (now (c .before .before .before .before .args .answer)) (ascii "error") ≡ false
 no-error c = sym (c .before .begins-with .ensures) ∙ c .if1 .left
 

@@ -1,4 +1,4 @@
--- `printing::hex::put_hex_byte` meets its contract: the higher digit, and the lower behind it.
+-- `printing::hex::put_hex_byte` meets its contract: the higher digit, and the lower after it.
 use borrow.Author.Needs.{needs}
 use Rattle.printing.proofs.HexDigits.{puts-hex-byte}
 use Rattle.printing.proofs.hex.put_hex_byte.Statement.{statement}

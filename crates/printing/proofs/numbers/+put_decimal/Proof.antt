@@ -1,4 +1,4 @@
--- `printing::numbers::put_decimal` meets its contract. The measure is the number: n / 10 is below n where n has two digits or more.
+-- `printing::numbers::put_decimal` meets its contract. The measure is the number: n / 10 is below n if n has two or more digits.
 use Prim.Native.Nat.{ℕ, _<_}
 use native.Mathlib.Omega.{arith}
 use borrow.Author.Needs.{needs}
@@ -22,7 +22,7 @@ put-decimal-at t = and 1 put-decimal-kinds.ps (is 1 put-decimal-kinds.ps μ-put-
 abbrev put-decimal-below : ℕ → In 1 put-decimal-kinds.ps
 put-decimal-below t = and 1 put-decimal-kinds.ps (falls 1 put-decimal-kinds.ps _<_ μ-put-decimal t) put-decimal.Pre
 
--- what the calls ask and give: a digit, and the digits of a number below
+-- what the calls require and give: a digit, and the digits of a smaller number
 abbrev claims : ℕ → put-decimal-lts.Claims
 claims t = (put-digit-reads.Asked, put-digit-reads.Learnt, put-decimal-below t, put-decimal.Post)
 

@@ -24,7 +24,7 @@ put-last-digits-at t = and 1 put-last-digits-kinds.ps (is 1 put-last-digits-kind
 abbrev put-last-digits-below : ℕ → In 1 put-last-digits-kinds.ps
 put-last-digits-below t = and 1 put-last-digits-kinds.ps (falls 1 put-last-digits-kinds.ps _<_ μ-put-last-digits t) put-last-digits.Pre
 
--- what the calls ask and give: fewer digits, and a digit
+-- what the calls require and give: fewer digits, and a digit
 abbrev claims : ℕ → put-last-digits-lts.Claims
 claims t = (put-last-digits-below t, put-last-digits.Post, put-digit-reads.Asked, put-digit-reads.Learnt)
 

@@ -1,4 +1,4 @@
--- `printing::numbers::put_natural_parts` meets its contract: the whole part, the point and the decimals go one behind the other.
+-- `printing::numbers::put_natural_parts` meets its contract: the whole part, the point and the decimals, one after the other.
 use borrow.Author.Needs.{needs}
 use Rattle.printing.specs.Decimal.{partsNatural}
 use Rattle.printing.proofs.Putting.{puts-then}

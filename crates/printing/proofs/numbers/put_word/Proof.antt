@@ -1,4 +1,4 @@
--- `printing::numbers::put_word` meets its contract: a blank, and the word behind it.
+-- `printing::numbers::put_word` meets its contract: a space, and the word after it.
 use borrow.Author.Needs.{needs}
 use Rattle.guide.proofs.Held.{cast-word, cast-fits}
 use Rattle.printing.proofs.Putting.{puts-then}

@@ -1,4 +1,4 @@
--- `store::numbers::number_of` meets its contract: by the sign, 65535 less `!w`, or w itself.
+-- `store::numbers::number_of` meets its contract: 65535 − `!w` if w is below 0, and w itself otherwise.
 use mathlib.Core.Path.{_∙_, ap, sym}
 use native.Mathlib.Omega.{arith}
 use lib.IntN.{natAbs}

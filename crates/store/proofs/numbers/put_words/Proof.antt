@@ -21,7 +21,7 @@ Inv-loop out₀ at words next₀ i₀ out next i = (i ≤ length words) × Place
 abbrev μ-loop : tie.MeasureT-loop
 μ-loop out₀ at words next₀ i₀ out next i = length words - i
 
--- where the first i words leave the buffer
+-- the buffer after the first i words
 so-far : (c : tie.At-loop Inv-loop μ-loop) → let a = c .before .before .args in
     WordsPut (now (a .out)) (a .at) (c .loop .i) (c .loop .out) (c .loop .next)
 so-far c =

@@ -1,5 +1,5 @@
--- `store::reader::reader_on` meets its contract: a walk of its MIR, by hand. A `Reader` is made of the slice and the cursor, in the local
--- of the result. Both are Copy, so what they own is had twice: once for the parameters at exit, and once inside the result.
+-- `store::reader::reader_on` meets its contract: a walk of its MIR, by hand. The local of the result gets a `Reader` made of the slice and
+-- the cursor. Both are Copy, so what they own is there twice: once for the parameters at exit, and once inside the result.
 use mathlib.Core.Path.{refl}
 use Prim.Native.Nat.{ℕ}
 use mathlib.Core.List.{List, [], _∷_}
@@ -81,7 +81,7 @@ module _ {M : Type 1} (𝓤 : URA M) (H : Heap 𝓤) (A : Atoms 𝓤) (W : Given
   abbrev Pre : SProp 𝓤
   Pre = onEntry 𝓤 H A reader-on.signature (κ, tt) (q, tt) args vals
 
-  -- the triple in which the walk ends, and what it is taken at
+  -- the triple in which the walk ends, and its ghost arguments
   abbrev Walk : Contract 𝓤
   Walk = walkOf 𝓤 H A reader-on.ended stayed (reader-on.clauses 𝓤 H A mem run)
 

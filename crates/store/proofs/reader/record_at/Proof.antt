@@ -1,4 +1,4 @@
--- `store::reader::record_at` meets its contract: where it answers that there is nothing, the number it read is not the length of a record.
+-- `store::reader::record_at` meets its contract: if it answers that there is nothing, the number it read is not the length of a record.
 use borrow.Author.Needs.{needs}
 use mathlib.Core.Path.{refl}
 use native.Mathlib.Omega.{arith}

@@ -1,6 +1,6 @@
--- `store::reader::see_record` meets its contract: a walk of its MIR, by hand. The reader is taken apart, and `record_at` is called on the
--- slice and the cursor. A reader is Copy, so what it owns is had twice: one copy is kept whole for the exit, and the other, field by field,
--- is what `record_at` asks. Of `record_at` the proof uses only that it meets its contract.
+-- `store::reader::see_record` meets its contract: a walk of its MIR, by hand. The function takes the reader apart, and calls `record_at` on
+-- the slice and the cursor. A reader is Copy, so what it owns is there twice. One copy stays whole for the exit. The other, field by field,
+-- is what `record_at` requires. The proof uses only the contract of `record_at`.
 use mathlib.Core.Path.{_≡_, refl}
 use mathlib.Core.List.{[], _∷_}
 use lib.Dec.{T as Holds}
@@ -93,7 +93,7 @@ module _ {M : Type 1} (𝓤 : URA M) (H : Heap 𝓤) (A : Atoms 𝓤) (W : Given
   abbrev Pre : SProp 𝓤
   Pre = onEntry 𝓤 H A see-record.signature (κ, tt) (q, tt) (r, tt) (rᵐ ∷ [], tt)
 
-  -- the triple in which the walk ends, and what it is taken at
+  -- the triple in which the walk ends, and its ghost arguments
   abbrev Walk : Contract 𝓤
   Walk = walkOf 𝓤 H A see-record.ended stayed (see-record.clauses 𝓤 H A mem run)
 
@@ -120,7 +120,7 @@ module _ {M : Type 1} (𝓤 : URA M) (H : Heap 𝓤) (A : Atoms 𝓤) (W : Given
   abbrev passed : Record-at 𝓤 H A mem run .Ghost
   passed = (((κ, tt), (q, tt), tt, args, vals), tt)
 
-  -- what the callee asks, and what is known once it has returned t
+  -- what the callee requires, and what is known after it has returned t
   abbrev Asks : SProp 𝓤
   Asks = Record-at 𝓤 H A mem run .pre passed
 
@@ -131,7 +131,7 @@ module _ {M : Type 1} (𝓤 : URA M) (H : Heap 𝓤) (A : Atoms 𝓤) (W : Given
   asked =
       qed W (token ∷ ‵ (owns (ShrSlice (named 0) κ u8 ∷ cursor.the-row ∷ []) args vals) ∷ []) ∵ join ! $ frame ! $ done !
 
-  -- what the struct owns gives what the callee asks, and is kept
+  -- what the struct owns gives what the callee requires, and is kept
   apart : ent 𝓤 Pre (sep 𝓤 Asks (sem 𝓤 H A Own))
   apart =
       qed W (token ∷ ‵ (owns (Row (κ, tt) ∷ []) (r, tt) (rᵐ ∷ [], tt)) ∷ []) ∵
@@ -143,7 +143,7 @@ module _ {M : Type 1} (𝓤 : URA M) (H : Heap 𝓤) (A : Atoms 𝓤) (W : Given
       -- [what the fields own, in their order; Own; token]
       move ! (2 ∷ 0 ∷ []) $ use2 W (raw Asks) asked $ frame ! $ done !)
 
-  -- of what is known of the call, the clause alone
+  -- only the clause, from what is known of the call
   said : (t : Seen) → ent 𝓤 (Ensures t) (fact 𝓤 (Says r t))
   said t = exE 𝓤 _ (λ ws. snd∗ 𝓤 (sem 𝓤 H A (lasts record-at.ended (κ, tt) args ws)) (fact 𝓤 (Says r t)))
 

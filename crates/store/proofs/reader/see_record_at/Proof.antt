@@ -1,6 +1,6 @@
--- `store::reader::see_record_at` meets its contract: a walk of its MIR, by hand. The reader that `reader_on` returns is held in a local,
--- and goes to `see_record`. Of each of the two the proof uses only that it meets its contract. MIR erases the lifetime in the type of a
--- local, so the machine value that `reader_on` returns is shown to have the struct's type at `erased`.
+-- `store::reader::see_record_at` meets its contract: a walk of its MIR, by hand. A local holds the reader that `reader_on` returns, and
+-- passes it to `see_record`. The proof uses only the contracts of these two functions. MIR erases the lifetime in the type of a local. So
+-- the proof shows that the machine value that `reader_on` returns has the struct's type at `erased`.
 use mathlib.Core.Path.{_≡_, refl, subst}
 use Prim.Native.Nat.{ℕ}
 use mathlib.Core.List.{List, [], _∷_}
@@ -105,7 +105,7 @@ module _ {M : Type 1} (𝓤 : URA M) (H : Heap 𝓤) (A : Atoms 𝓤) (W : Given
   abbrev Pre : SProp 𝓤
   Pre = onEntry 𝓤 H A see-record-at.signature (κ, tt) (q, tt) args vals
 
-  -- the triple in which the walk ends, and what it is taken at
+  -- the triple in which the walk ends, and its ghost arguments
   abbrev Walk : Contract 𝓤
   Walk = walkOf 𝓤 H A see-record-at.ended stayed (see-record-at.clauses 𝓤 H A mem run)
 
@@ -128,7 +128,7 @@ module _ {M : Type 1} (𝓤 : URA M) (H : Heap 𝓤) (A : Atoms 𝓤) (W : Given
   abbrev Own : Fml
   Own = owns (Bytes ∷ cursor.the-row ∷ []) args vals
 
-  -- the call of `reader_on`, at the parameters: what it asks, and what is known once it has returned r
+  -- the call of `reader_on` with the parameters: what it requires, and what is known after it has returned r
   abbrev On-asks : SProp 𝓤
   On-asks = Reader-on 𝓤 H A mem run .pre bound
 
@@ -155,7 +155,7 @@ module _ {M : Type 1} (𝓤 : URA M) (H : Heap 𝓤) (A : Atoms 𝓤) (W : Given
   on-said : (r : Reader) → ent 𝓤 (On-ensures r) (fact 𝓤 (Made r))
   on-said r = exE 𝓤 _ (λ ws. snd∗ 𝓤 (sem 𝓤 H A (lasts reader-on.ended (κ, tt) args ws)) (fact 𝓤 (Made r)))
 
-  -- the call of `see_record`, at the struct r with the machine value u: what it asks, and what is known once it has returned
+  -- the call of `see_record` with the struct r, whose machine value is u: what it requires, and what is known after it has returned
   abbrev passed : Reader → Val → See-record 𝓤 H A mem run .Ghost
   passed r u = (((κ, tt), (q, tt), tt, (r, tt), (u ∷ [], tt)), tt)
 
@@ -174,7 +174,7 @@ module _ {M : Type 1} (𝓤 : URA M) (H : Heap 𝓤) (A : Atoms 𝓤) (W : Given
   next-said r t =
       exE 𝓤 _ (λ ws. snd∗ 𝓤 (sem 𝓤 H A (lasts see-record.ended (κ, tt) (r, tt) ws)) (fact 𝓤 (Says (r .bytes) (r .cursor) t)))
 
-  -- what is said of the struct is said of the parameters
+  -- what holds for the struct holds for the parameters
   same : (r : Reader) (t : Seen) → Made r → Says (r .bytes) (r .cursor) t → Says s c t
   same r t e said = subst (λ x. Says x c t) (e .0) (subst (λ k. Says (r .bytes) k t) (e .1) said)
 

@@ -1,4 +1,4 @@
--- `store::records::find_record` meets its contract: what `see_record_at` saw at the cursor is the record that is asked for, or it is not.
+-- `store::records::find_record` meets its contract. What `see_record_at` saw at the cursor is the record that is asked for, or it is not.
 use borrow.Author.Needs.{needs}
 use mathlib.Core.Path.{_≡_, sym, _∙_}
 use Prim.Native.Nat.{_+_, _*_, _≤_}
@@ -10,12 +10,12 @@ use Rattle.store.proofs.RecordsIn.{no-record, other-kind, other-count, 
 use Rattle.store.proofs.records.find_record.Statement.{statement}
 use Rattle.store.proofs.records.find_record.Tie as tie
 
--- what was seen, where it is a record
+-- what was seen, if it is a record
 saw : (c : tie.After-kind) → let a = c .before .before .before .before .args in
     seen.Record (c .kind .given .0 .0) (c .kind .given .0 .1 .0) ≡ recordIn (drop (a .cursor .at) (a .bytes .now))
 saw c = sym (c .kind .given .1) ∙ c .before .before .see-record-at .ensures
 
--- .. and that it lies within the bytes
+-- .. and it lies within the bytes
 within : (c : tie.After-kind) → let a = c .before .before .before .before .args in
     a .cursor .at + 4 + 2 * c .kind .given .0 .1 .0 ≤ length (a .bytes .now)
 within c = let a = c .before .before .before .before .args in record-within (a .cursor .at) (a .bytes .now) _ _ (saw c)

@@ -1,5 +1,5 @@
--- `system::status::status_in` meets its contract: a walk of its MIR, by hand. The struct is lent to `fstat` and taken back at some value,
--- of which four fields are read. Of `fstat` the walk uses only that it meets its contract.
+-- `system::status::status_in` meets its contract: a walk of its MIR, by hand. It lends the struct to `fstat`, takes it back with some
+-- value, and reads four of its fields. All that the walk uses of `fstat` is that it meets its contract.
 use mathlib.Core.Path.{refl, ap}
 use Prim.Native.Nat.{ℕ}
 use mathlib.Core.List.{[], _∷_}
@@ -52,7 +52,7 @@ use Rattle.system.proofs.status.status_in.Key.{name as #status-in}
 use Rattle.system.proofs.status.status_in.Statement as stated
 use Rattle.system.proofs.status.status_in.Code as code
 
--- at exit nothing is had of the parameters
+-- at exit nothing is left of the parameters
 abbrev stayed : Stays (status-in.ended .signature .params) (status-in.ended .kept)
 stayed = (stay-dropped (plain (λ _. i32)) yes, (stay-dropped (plain (λ _. the-row)) yes, tt))
 
@@ -60,7 +60,7 @@ stayed = (stay-dropped (plain (λ _. i32)) yes, (stay-dropped (plain (λ _. the-
 abbrev bits : ℤ → Val
 bits z = vint w32 (ofZ w32 z)
 
--- what is returned where `fstat` answered r and left z, and its machine value
+-- what is returned if `fstat` answered r and left z in the struct; then the machine value of that
 abbrev told : ℤ → stat → FileStatus
 told r z = record { answer = r; links = z .«st_nlink»; mode = z .«st_mode»; owner = z .«st_uid»; group = z .«st_gid» }
 
@@ -69,7 +69,7 @@ toldᵐ r z =
     vstruct (vcons (bits r) (vcons (vint w64 (z .«st_nlink»))
     (vcons (vint w32 (z .«st_mode»)) (vcons (vint w32 (z .«st_uid»)) (vcons (vint w32 (z .«st_gid»)) vnil)))))
 
--- the four fields that are read fit
+-- the four fields that are read fit their widths
 pub record Fit (z : stat) : Type 0 where
   pub links : Fits w64 (z .«st_nlink»)
   pub mode : Fits w32 (z .«st_mode»)
@@ -103,7 +103,7 @@ module _ {M : Type 1} (𝓤 : URA M) (H : Heap 𝓤) (A : Atoms 𝓤) (W : Given
   abbrev vals : Vals status-in.signature tt
   vals = (bits fd ∷ [], (sᵐ ∷ [], tt))
 
-  -- the triple in which the walk ends, and what it is taken at
+  -- the triple in which the walk ends, and the values at which it is used
   abbrev Walk : Contract 𝓤
   Walk = walkOf 𝓤 H A status-in.ended stayed (status-in.clauses 𝓤 H A mem run)
 
@@ -113,7 +113,7 @@ module _ {M : Type 1} (𝓤 : URA M) (H : Heap 𝓤) (A : Atoms 𝓤) (W : Given
   abbrev Post : Val → SProp 𝓤
   Post = Walk .post bound
 
-  -- what `fstat` is passed, where s lies at l and is lent for α under γ; what it asks; and what is known once it has answered r
+  -- s lies at l and is lent for α under γ: what is passed to `fstat`, what it requires, and what is known after its answer r
   abbrev passed : ℕ → GName → ℕ → Fstat 𝓤 H A mem run .Ghost
   passed α γ l = (((α ∷ [], tt), (fullShare, tt), tt, (fd, (to the-type the-laws γ s l, tt)), (bits fd ∷ [], (vptr l 0 ∷ [], tt))), tt)
 

@@ -1,5 +1,5 @@
--- `system::waiting::wait` meets its contract: a walk of its MIR, by hand. The two structs are lent to `nanosleep`, each for a lifetime of
--- its own, and taken back. Of `nanosleep` the walk uses only that it meets its contract.
+-- `system::waiting::wait` meets its contract: a walk of its MIR, by hand. It lends two structs to `nanosleep`, each for a lifetime of its
+-- own, and takes them back. All that the walk uses of `nanosleep` is that it meets its contract.
 use mathlib.Core.Path.{refl}
 use Prim.Native.Nat.{ℕ}
 use mathlib.Core.List.{[], _∷_, List}
@@ -49,7 +49,7 @@ use Rattle.system.proofs.waiting.wait.Key.{name as #wait}
 use Rattle.system.proofs.waiting.wait.Statement as stated
 use Rattle.system.proofs.waiting.wait.Code as code
 
--- at exit nothing is had of the parameters
+-- at exit nothing is left of the parameters
 abbrev stayed : Stays (wait.ended .signature .params) (wait.ended .kept)
 stayed = (stay-dropped (plain (λ _. the-row)) yes, (stay-dropped (plain (λ _. the-row)) yes, tt))
 
@@ -72,7 +72,7 @@ module _ {M : Type 1} (𝓤 : URA M) (H : Heap 𝓤) (A : Atoms 𝓤) (W : Given
   abbrev vals : Vals wait.signature tt
   vals = (sᵐ ∷ [], (tᵐ ∷ [], tt))
 
-  -- the triple in which the walk ends, and what it is taken at
+  -- the triple in which the walk ends, and the values at which it is used
   abbrev Walk : Contract 𝓤
   Walk = walkOf 𝓤 H A wait.ended stayed (wait.clauses 𝓤 H A mem run)
 
@@ -94,7 +94,7 @@ module _ {M : Type 1} (𝓤 : URA M) (H : Heap 𝓤) (A : Atoms 𝓤) (W : Given
   tokens α β = ‵ (token α) ⊛ (‵ (token β) ⊛ ‵ ftrue)
 
   module _ (α β : ℕ) (γ δ : GName) (l m : ℕ) where
-    -- what `nanosleep` is passed, what it asks, and what is known once it has answered r
+    -- what is passed to `nanosleep`, what it requires, and what is known after its answer r
     abbrev κs : Lfts 2
     κs = (α ∷ [], (β ∷ [], tt))
 

@@ -1,0 +1,17 @@
+-- The exit status of a command on a file, and the words that ask for help.
+use mathlib.Core.Path.{_≡_}
+use mathlib.Core.Bool.{Bool, _||_}
+use mathlib.Core.List.{List}
+use Prim.Native.Nat.{ℕ}
+use Rattle.parsing.specs.Bytes.{sameBytes}
+use Rattle.printing.specs.Ascii.{ascii}
+use Rattle.outcomes.specs.Status.{statusOf}
+
+-- the status of the answer, or 3 if the answer could not be written, or the file not replaced or synced. The system's calls decide which of
+-- the two, and no contract can say it. A status of 0, 1 or 2 is always that of the answer
+pub data StatusBy (text : List ℕ) (status : ℕ) : Type 0 where
+  ofAnswer : status ≡ statusOf text → StatusBy text status
+  ofError : status ≡ 3 → StatusBy text status
+
+unfoldable pub asksForHelp : List ℕ → Bool
+asksForHelp word = (sameBytes word (ascii "--help") || sameBytes word (ascii "-h")) || sameBytes word (ascii "help")
