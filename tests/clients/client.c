@@ -2,12 +2,12 @@
  *
  *     target/clients/client_c tests/clients/calls.txt
  *
- * First the worked day, to be copied; then every function, with every refusal that it has, by the calls in calls.txt.
- * The clients in Python and Rust make the same comparisons in the same order. */
+ * It makes the calls in calls.txt: every function, with every refusal that it has. The clients in Python and Rust make the
+ * same comparisons in the same order. */
 #include "control_chart.h"
 
 #include <inttypes.h>
-#include <stdarg.h>
+#include <stdbool.h>
 #include <stdio.h>
 #include <stdlib.h>
 #include <string.h>
@@ -16,15 +16,7 @@
 
 static int comparisons;
 static char called[300];     /* the call that is compared */
-static char form_lent[1700]; /* to that call, in hexadecimal */
-
-static void calling(const char *format, ...)
-{
-    va_list values;
-    va_start(values, format);
-    vsnprintf(called, sizeof called, format, values);
-    va_end(values);
-}
+static char form_lent[1700]; /* the form that was lent to it, in hexadecimal */
 
 static const char *hex(char *text, const uint8_t *bytes, size_t count)
 {
@@ -57,7 +49,7 @@ static void same_number(const char *what, int64_t expected, int64_t came)
 
 #define SAME(what, expected, came) same_number(what, (int64_t)(expected), (int64_t)(came))
 
-/* One comparison; of a difference the eight bytes around it are shown. */
+/* One comparison. If there is a difference, the eight bytes around it are shown. */
 static void same_bytes(const char *what, const void *expected, const void *came, size_t count)
 {
     comparisons++;
@@ -72,82 +64,9 @@ static void same_bytes(const char *what, const void *expected, const void *came,
     }
 }
 
-/* ---- The worked day */
-
-static void worked_day(void)
-{
-    /* The word of a check sample (kind 2), to collect a base: 0.990 mg/L found of 1.000 made up is 99.00 %. */
-    int16_t word;
-    uint16_t answer = control_chart_word(2, 990, 1000, 0, &word);
-    calling("word of 990 of 1000");
-    SAME("answer", 0, answer);
-    SAME("word", 9900, word);
-
-    /* Fifteen words make the chart. Its stored form stands at the front of the buffer. */
-    const int16_t words[15] = {9900,  9900,  9900,  9900,  9900,  9900,  9900, 10100,
-                               10100, 10100, 10100, 10100, 10100, 10100, 10000};
-    uint8_t chart[CONTROL_CHART_FORM_MOST];
-    size_t size, rounds, removed;
-    answer = control_chart_build(2, words, 15, chart, sizeof chart, &size, &rounds, &removed);
-    calling("build");
-    SAME("answer", 0, answer);
-    SAME("size", 48, size);
-    SAME("rounds", 1, rounds);
-    SAME("removed", 0, removed);
-
-    /* The lines for the plotter: mean, lower and upper warning limit, lower and upper control limit. */
-    const double must_lines[CONTROL_CHART_LINES_MOST] = {10000.0, 9800.0, 10200.0, 9700.0, 10300.0};
-    double lines[CONTROL_CHART_LINES_MOST];
-    size_t count;
-    answer = control_chart_lines(chart, size, lines, CONTROL_CHART_LINES_MOST, &count);
-    calling("lines");
-    SAME("answer", 0, answer);
-    SAME("count", 5, count);
-    same_bytes("lines", must_lines, lines, sizeof lines);
-
-    /* Each batch brings a check sample. Verdict 1 is beyond a control limit: hold the batch, analyse it again. */
-    const int found[] = {1002, 1025, 1031}, must_word[] = {10020, 10250, 10310}, must_verdict[] = {0, 0, 1};
-    uint16_t verdict;
-    for (size_t i = 0; i < 3; i++) {
-        answer = control_chart_post(chart, sizeof chart, &size, 2, found[i], 1000, 0, &word, &verdict);
-        calling("post of %d of 1000", found[i]);
-        SAME("answer", 0, answer);
-        SAME("word", must_word[i], word);
-        SAME("verdict", must_verdict[i], verdict);
-    }
-
-    /* Until then nothing more is posted: refusal 8, and the chart is as it was. */
-    answer = control_chart_post(chart, sizeof chart, &size, 2, 1001, 1000, 0, &word, &verdict);
-    calling("post of 1001 of 1000");
-    SAME("answer", 8, answer);
-
-    /* 103.00 % is on the control limit, not beyond it: the reanalysis passes and takes the place of 103.10 %. */
-    uint8_t passed;
-    answer = control_chart_reanalyse(chart, sizeof chart, &size, 2, 1030, 1000, 0, &word, &passed);
-    calling("reanalysis of 1030 of 1000");
-    SAME("answer", 0, answer);
-    SAME("word", 10300, word);
-    SAME("passed", 1, passed);
-
-    /* These bytes go into a file or a database. When they come back, check says whether they hold a sound chart. */
-    const uint8_t must_form[54] = {
-        0x08, 0x00, 0x01, 0x00, 0x02, 0x00, 0x00, 0x00, 0x00, 0x00, /* record 1: kind 2, status 0, open verdict 0 */
-        0x20, 0x00, 0x02, 0x00, /* record 2, the base: 9900 seven times, 10100 seven times, 10000 */
-        0xac, 0x26, 0xac, 0x26, 0xac, 0x26, 0xac, 0x26, 0xac, 0x26, 0xac, 0x26, 0xac, 0x26,
-        0x74, 0x27, 0x74, 0x27, 0x74, 0x27, 0x74, 0x27, 0x74, 0x27, 0x74, 0x27, 0x74, 0x27, 0x10, 0x27,
-        0x08, 0x00, 0x03, 0x00, 0x24, 0x27, 0x0a, 0x28, 0x3c, 0x28, /* record 3, the series: 10020, 10250, 10300 */
-    };
-    calling("the stored form");
-    SAME("size", 54, size);
-    same_bytes("bytes", must_form, chart, size);
-    answer = control_chart_check(chart, size);
-    calling("check");
-    SAME("answer", 0, answer);
-}
-
 /* ---- Every function, with every refusal that it has */
 
-#define FILL 0x77 /* fills lent memory before a call, so that what the call leaves alone is seen */
+#define FILL 0x77 /* fills lent memory before a call, to show what the call does not change */
 #define LENT 820  /* the bytes lent for a chart, more than the longest form */
 
 struct numbers {
@@ -159,14 +78,15 @@ struct numbers {
 static struct numbers list[5];
 static const int64_t *in, *out;    /* the first list, and the list after `=` */
 static const struct numbers *base; /* the list after that */
+static const char *out_text;       /* the text after the answer */
 
-/* A chart in lent memory, and the room that a call is told of. */
+/* A chart in lent memory, and the room that a call gets. */
 struct chart {
     uint8_t bytes[LENT];
     size_t size, room;
 };
 
-/* The other memory that is lent; there are more words, flags and doubles than any call needs. */
+/* The other lent memory, with more words, flags, doubles and bytes for a text than any call needs. */
 struct lent {
     int16_t words[34];
     size_t rounds, removed, count;
@@ -174,6 +94,7 @@ struct lent {
     uint16_t verdict;
     uint8_t passed, beyond[7];
     double lines[7];
+    char text[200]; /* more than a line of calls.txt */
 };
 
 static struct chart now, must; /* the chart that is lent, and what it must be after the call */
@@ -204,13 +125,13 @@ static void put_form(const int64_t *head, const struct numbers *base_words, cons
     put_record(3, series->at, series->count);
 }
 
-/* A new base, an empty series, status 0. What is behind the form stays. */
+/* A new base, an empty series, status 0. The bytes after the form stay. */
 static void put_fresh(int64_t kind)
 {
     put_form((const int64_t[]){kind, 0, 0}, base, &(const struct numbers){0});
 }
 
-/* Each of the nine calls puts what is expected where the answer is 0, and gives back the answer that came. */
+/* Each of the twelve calls sets what is expected if the answer is 0, and gives back the answer that came. */
 
 static uint16_t word(void)
 {
@@ -307,6 +228,36 @@ static uint16_t check(void)
     return control_chart_check(now.bytes, now.size);
 }
 
+/* The text and its 0 byte. The bytes after it stay. */
+static void expect_text(void)
+{
+    if (out[0] == 0) {
+        strcpy(expected.text, out_text);
+    }
+}
+
+static uint16_t refusal_text(void)
+{
+    expect_text();
+    return control_chart_refusal_text((uint32_t)in[0], came.text, (size_t)in[1]);
+}
+
+static uint16_t verdict_text(void)
+{
+    expect_text();
+    return control_chart_verdict_text((uint32_t)in[0], came.text, (size_t)in[1]);
+}
+
+/* The header has the same version. Only this client reads the header, so this comparison is not counted. */
+static uint16_t version(void)
+{
+    if (out[0] == 0 && strcmp(out_text, CONTROL_CHART_VERSION) != 0) {
+        different("CONTROL_CHART_VERSION", out_text, CONTROL_CHART_VERSION);
+    }
+    expect_text();
+    return control_chart_version(came.text, (size_t)in[0]);
+}
+
 /* Makes a call, and compares the answer, every output and every lent byte. */
 static void compare(uint16_t (*call)(void))
 {
@@ -324,16 +275,23 @@ static void compare(uint16_t (*call)(void))
     SAME("passed", expected.passed, came.passed);
     same_bytes("beyond", expected.beyond, came.beyond, sizeof came.beyond);
     same_bytes("lines", expected.lines, came.lines, sizeof came.lines);
+    same_bytes("text", expected.text, came.text, sizeof came.text);
     SAME("size", must.size, now.size);
     same_bytes("bytes", must.bytes, now.bytes, LENT);
 }
 
-/* Reads the numbers of a line, whose name strtok has given. */
-static void read_numbers(void)
+static bool has_text(const char *name)
+{
+    return strcmp(name, "refusal_text") == 0 || strcmp(name, "verdict_text") == 0 || strcmp(name, "version") == 0;
+}
+
+/* Reads the numbers of a line. strtok has given the name before them. A text is the rest of the line after the answer. */
+static void read_numbers(bool with_text)
 {
     struct numbers *numbers = list;
     memset(list, 0, sizeof list);
     in = list[0].at;
+    out_text = "";
     for (char *token = strtok(NULL, " "); token != NULL; token = strtok(NULL, " ")) {
         if (strcmp(token, "=") == 0) {
             numbers++;
@@ -346,6 +304,10 @@ static void read_numbers(void)
             const int64_t number = strtoll(star != NULL ? star + 1 : token, NULL, 10);
             for (long times = star != NULL ? atol(token) : 1; times > 0; times--) {
                 numbers->at[numbers->count++] = number;
+            }
+            const char *rest = with_text && numbers != list ? strtok(NULL, "") : NULL;
+            if (rest != NULL) {
+                out_text = rest;
             }
         }
     }
@@ -369,14 +331,15 @@ static void step(const char *place, const char *text)
     static const struct {
         const char *name;
         uint16_t (*call)(void);
-    } calls[9] = {{"word", word},       {"build", build}, {"post", post},   {"reanalyse", reanalyse},
-                  {"correct", correct}, {"renew", renew}, {"lines", lines}, {"against_lines", against_lines},
-                  {"check", check}};
+    } calls[12] = {{"word", word},                 {"build", build},                 {"post", post},
+                   {"reanalyse", reanalyse},       {"correct", correct},             {"renew", renew},
+                   {"lines", lines},               {"against_lines", against_lines}, {"check", check},
+                   {"refusal_text", refusal_text}, {"verdict_text", verdict_text},   {"version", version}};
     static const char *const on_a_chart[7] = {"post 2 10000 10000 0", "reanalyse 2 10000 10000 0", "correct", "renew",
                                               "lines 6", "against_lines 10000 6", "check"};
     char line[200];
     snprintf(line, sizeof line, "%s", text);
-    calling("%s: %s", place, text);
+    snprintf(called, sizeof called, "%s: %s", place, text);
     const char *name = strtok(line, " ");
     long times = 1;
     if (strchr(name, '*') != NULL) {
@@ -387,7 +350,7 @@ static void step(const char *place, const char *text)
         same_form();
         return;
     }
-    read_numbers();
+    read_numbers(has_text(name));
     if (strcmp(name, "chart") == 0) {
         memset(&must, FILL, sizeof must);
         must.room = LENT;
@@ -406,10 +369,10 @@ static void step(const char *place, const char *text)
         }
     } else {
         size_t i = 0;
-        while (i < 9 && strcmp(name, calls[i].name) != 0) {
+        while (i < 12 && strcmp(name, calls[i].name) != 0) {
             i++;
         }
-        if (i == 9) {
+        if (i == 12) {
             different("name", "one that calls.txt explains", name);
         }
         if (calls[i].call == build) {
@@ -428,7 +391,6 @@ int main(int count, char **arguments)
         fprintf(stderr, "client.c: give the path of calls.txt\n");
         return 1;
     }
-    worked_day();
     char line[200], place[30];
     for (int number = 1; fgets(line, sizeof line, file) != NULL; number++) {
         line[strcspn(line, "\n")] = 0;

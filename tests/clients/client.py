@@ -2,8 +2,8 @@
 
     python3 tests/clients/client.py target/lib/libcontrol_chart.so tests/clients/calls.txt
 
-First the worked day, to be copied; then every function, with every refusal that it has, by the calls in calls.txt.
-The clients in C and Rust make the same comparisons in the same order.
+It makes the calls in calls.txt: every function, with every refusal that it has. The clients in C and Rust make the same
+comparisons in the same order.
 """
 
 import sys
@@ -11,9 +11,6 @@ from ctypes import CDLL, POINTER, byref, c_double, c_int16, c_int32, c_int64, c_
 from ctypes import sizeof
 
 # ---- The library
-
-FORM_MOST = 814  # the bytes of the longest stored form
-LINES_MOST = 5  # the doubles of a kind 2 or 3 chart
 
 BYTES, SIZE, WORD = POINTER(c_uint8), POINTER(c_size_t), POINTER(c_int16)
 READING = [c_uint32, c_int64, c_int64, c_int64]
@@ -27,11 +24,14 @@ ARGUMENTS = {
     "lines": [BYTES, c_size_t, POINTER(c_double), c_size_t, SIZE],
     "against_lines": [BYTES, c_size_t, c_int32, BYTES, c_size_t],
     "check": [BYTES, c_size_t],
+    "refusal_text": [c_uint32, BYTES, c_size_t],
+    "verdict_text": [c_uint32, BYTES, c_size_t],
+    "version": [BYTES, c_size_t],
 }
 
 
 class Library:
-    """The nine functions. Their types are set, since ctypes would pass every number as an int."""
+    """The twelve functions. Their types are set, since ctypes would pass every number as an int."""
 
     def __init__(self, path):
         loaded = CDLL(path)
@@ -46,7 +46,7 @@ class Library:
 
 comparisons = 0
 called = ""  # the call that is compared
-form_lent = b""  # to that call
+form_lent = b""  # the form that was lent to it
 
 
 def same(what, expected, came):
@@ -60,91 +60,18 @@ def same(what, expected, came):
 
 
 def same_bytes(what, expected, came):
-    """One comparison; of a difference the eight bytes around it are shown."""
+    """One comparison. If there is a difference, the eight bytes around it are shown."""
     starts = range(0, len(came), 8)
     at = next((i for i in starts if expected[i : i + 8] != came[i : i + 8]), 0)
     same(f"{what} from {at} on", expected[at : at + 8].hex(), came[at : at + 8].hex())
 
 
-def calling(name):
-    global called
-    called = name
-
-
-# ---- The worked day
-
-
-def worked_day(library):
-    # The word of a check sample (kind 2), to collect a base: 0.990 mg/L found of 1.000 made up is 99.00 %.
-    word = c_int16()
-    answer = library.word(2, 990, 1000, 0, byref(word))
-    calling("word of 990 of 1000")
-    same("answer", 0, answer)
-    same("word", 9900, word.value)
-
-    # Fifteen words make the chart. Its stored form stands at the front of the buffer.
-    words = (c_int16 * 15)(*[9900] * 7, *[10100] * 7, 10000)
-    chart, size, rounds, removed = (c_uint8 * FORM_MOST)(), c_size_t(), c_size_t(), c_size_t()
-    answer = library.build(2, words, len(words), chart, len(chart), byref(size), byref(rounds), byref(removed))
-    calling("build")
-    same("answer", 0, answer)
-    same("size", 48, size.value)
-    same("rounds", 1, rounds.value)
-    same("removed", 0, removed.value)
-
-    # The lines for the plotter: mean, lower and upper warning limit, lower and upper control limit.
-    lines, count = (c_double * LINES_MOST)(), c_size_t()
-    answer = library.lines(chart, size, lines, len(lines), byref(count))
-    calling("lines")
-    same("answer", 0, answer)
-    same("count", 5, count.value)
-    same("lines", [10000.0, 9800.0, 10200.0, 9700.0, 10300.0], list(lines))
-
-    # Each batch brings a check sample. Verdict 1 is beyond a control limit: hold the batch, analyse it again.
-    verdict = c_uint16()
-    for found, must_word, must_verdict in [(1002, 10020, 0), (1025, 10250, 0), (1031, 10310, 1)]:
-        answer = library.post(chart, len(chart), byref(size), 2, found, 1000, 0, byref(word), byref(verdict))
-        calling(f"post of {found} of 1000")
-        same("answer", 0, answer)
-        same("word", must_word, word.value)
-        same("verdict", must_verdict, verdict.value)
-
-    # Until then nothing more is posted: refusal 8, and the chart is as it was.
-    answer = library.post(chart, len(chart), byref(size), 2, 1001, 1000, 0, byref(word), byref(verdict))
-    calling("post of 1001 of 1000")
-    same("answer", 8, answer)
-
-    # 103.00 % is on the control limit, not beyond it: the reanalysis passes and takes the place of 103.10 %.
-    passed = c_uint8()
-    answer = library.reanalyse(chart, len(chart), byref(size), 2, 1030, 1000, 0, byref(word), byref(passed))
-    calling("reanalysis of 1030 of 1000")
-    same("answer", 0, answer)
-    same("word", 10300, word.value)
-    same("passed", 1, passed.value)
-
-    # These bytes go into a file or a database. When they come back, check says whether they hold a sound chart.
-    form = bytes(chart[: size.value])
-    must_form = (
-        "08000100020000000000"  # record 1: kind 2, status 0, open verdict 0
-        "20000200"  # record 2, the base: 9900 seven times, 10100 seven times, 10000
-        "ac26ac26ac26ac26ac26ac26ac26" "7427742774277427742774277427" "1027"
-        "08000300"  # record 3, the series: 10020, 10250, 10300
-        "2427" "0a28" "3c28"
-    )
-    calling("the stored form")
-    same("size", 54, size.value)
-    same_bytes("bytes", bytes.fromhex(must_form), form)
-    answer = library.check(chart, size)
-    calling("check")
-    same("answer", 0, answer)
-
-
 # ---- Every function, with every refusal that it has
 
-FILL = 0x77  # fills lent memory before a call, so that what the call leaves alone is seen
+FILL = 0x77  # fills lent memory before a call, to show what the call does not change
 LENT = 820  # the bytes lent for a chart, more than the longest form
 
-# The other memory that is lent; there are more words, flags and doubles than any call needs.
+# The other lent memory, with more words, flags, doubles and bytes for a text than any call needs.
 LENT_TYPES = {
     "words": c_int16 * 34,
     "rounds": c_size_t,
@@ -155,6 +82,7 @@ LENT_TYPES = {
     "passed": c_uint8,
     "beyond": c_uint8 * 7,
     "lines": c_double * 7,
+    "text": c_uint8 * 200,
 }
 
 CALLS_ON_A_CHART = [
@@ -167,6 +95,8 @@ CALLS_ON_A_CHART = [
     "check",
 ]
 
+CALLS_WITH_TEXT = ["refusal_text", "verdict_text", "version"]
+
 
 def filled(lent_type):
     return lent_type.from_buffer_copy(bytes([FILL]) * sizeof(lent_type))
@@ -178,12 +108,12 @@ def stored(*numbers):
 
 
 def stored_form(head, base, series):
-    """A form that is made by hand."""
+    """A form made by hand."""
     return b"".join(stored(2 + 2 * len(of), record, *of) for record, of in [(1, head), (2, base), (3, series)])
 
 
 def numbers_of(text):
-    """Lists of numbers between `/`; "7*9900" stands for seven."""
+    """Lists of numbers between `/`; "7*9900" stands for 9900 seven times."""
     lists = []
     for part in text.split("/"):
         pairs = [token.rpartition("*") for token in part.split()]
@@ -208,7 +138,7 @@ class Calls:
         self.must_bytes[at : at + 2 * len(numbers)] = stored(*numbers)
 
     def put_fresh(self, kind, base):
-        """A new base, an empty series, status 0. What is behind the form stays."""
+        """A new base, an empty series, status 0. The bytes after the form stay."""
         form = stored_form([kind, 0, 0], base, [])
         self.must_size = len(form)
         self.must_bytes[: len(form)] = form
@@ -234,7 +164,7 @@ class Calls:
         for name, value in outputs.items():
             self.expected[name].value = value
 
-    # Each of the nine calls puts what is expected where the answer is 0, and gives back the answer that came.
+    # Each of the twelve calls sets what is expected if the answer is 0, and gives back the answer that came.
 
     def word(self, given, must):
         if must[0][0] == 0:
@@ -304,15 +234,39 @@ class Calls:
     def check(self, given, must):
         return self.library.check(self.bytes, self.size)
 
+    def expect_text(self, must):
+        """The text and its 0 byte. The bytes after it stay."""
+        if must[0][0] == 0:
+            text = self.text.encode("ascii") + b"\0"
+            self.expected["text"][: len(text)] = text
+
+    def refusal_text(self, given, must):
+        self.expect_text(must)
+        number, room = given[0]
+        return self.library.refusal_text(number, self.came["text"], room)
+
+    def verdict_text(self, given, must):
+        self.expect_text(must)
+        verdict, room = given[0]
+        return self.library.verdict_text(verdict, self.came["text"], room)
+
+    def version(self, given, must):
+        self.expect_text(must)
+        (room,) = given[0]
+        return self.library.version(self.came["text"], room)
+
     def step(self, place, text):
         """One line of calls.txt."""
-        calling(f"{place}: {text}")
+        global called
+        called = f"{place}: {text}"
         name, _, rest = text.partition(" ")
         times, _, name = name.rpartition("*")
         if name == "form":
             same("bytes", rest.replace(" ", ""), bytes(self.bytes[: self.size.value]).hex())
             return
         before, _, after = rest.partition("=")
+        if name in CALLS_WITH_TEXT:
+            after, _, self.text = after.lstrip().partition(" ")
         given, must = numbers_of(before), numbers_of(after)
         if name == "chart":
             self.lend(stored_form(*given))
@@ -336,13 +290,11 @@ class Calls:
 def main():
     if len(sys.argv) != 3:
         sys.exit("client.py: give the paths of libcontrol_chart.so and calls.txt")
-    library = Library(sys.argv[1])
-    worked_day(library)
-    calls = Calls(library)
+    calls = Calls(Library(sys.argv[1]))
     with open(sys.argv[2], encoding="ascii") as file:
         for number, line in enumerate(file, 1):
             if line.strip() and not line.startswith("#"):
-                calls.step(f"calls.txt line {number}", line.strip())
+                calls.step(f"calls.txt line {number}", line.rstrip("\n"))
     print(f"client.py: {comparisons} comparisons, all as expected")
 
 

@@ -2,19 +2,16 @@
 //!
 //!     target/clients/client_rs tests/clients/calls.txt
 //!
-//! First the worked day, to be copied; then every function, with every refusal that it has, by the calls in calls.txt.
-//! The clients in C and Python make the same comparisons in the same order.
+//! It makes the calls in calls.txt: every function, with every refusal that it has. The clients in C and Python make the
+//! same comparisons in the same order.
 
 use std::process::exit;
 
-/// The nine functions over slices. They are safe because slices and references give what the header asks of pointers:
-/// not null, aligned, and memory that is lent for writing overlaps nothing else that is lent.
+/// The twelve functions, with slices. They are safe, because slices and references have what the header requires of pointers:
+/// they are not null, they are aligned, and memory that is lent for writing overlaps nothing else that is lent.
 #[allow(clippy::too_many_arguments)]
 mod control_chart {
-    /// The bytes of the longest stored form.
-    pub const FORM_MOST: usize = 814;
-    /// The doubles of a kind 2 or 3 chart.
-    pub const LINES_MOST: usize = 5;
+    use std::os::raw::c_char;
 
     #[rustfmt::skip]
     extern "C" {
@@ -31,6 +28,9 @@ mod control_chart {
         fn control_chart_lines(chart: *const u8, size: usize, lines: *mut f64, room: usize, count: *mut usize) -> u16;
         fn control_chart_against_lines(chart: *const u8, size: usize, word: i32, beyond: *mut u8, room: usize) -> u16;
         fn control_chart_check(chart: *const u8, size: usize) -> u16;
+        fn control_chart_refusal_text(number: u32, text: *mut c_char, room: usize) -> u16;
+        fn control_chart_verdict_text(verdict: u32, text: *mut c_char, room: usize) -> u16;
+        fn control_chart_version(text: *mut c_char, room: usize) -> u16;
     }
 
     /// A kind and three readings.
@@ -83,6 +83,15 @@ mod control_chart {
     pub fn check(form: &[u8]) -> u16 {
         unsafe { control_chart_check(form.as_ptr(), form.len()) }
     }
+    pub fn refusal_text(number: u32, text: &mut [u8]) -> u16 {
+        unsafe { control_chart_refusal_text(number, text.as_mut_ptr().cast(), text.len()) }
+    }
+    pub fn verdict_text(verdict: u32, text: &mut [u8]) -> u16 {
+        unsafe { control_chart_verdict_text(verdict, text.as_mut_ptr().cast(), text.len()) }
+    }
+    pub fn version(text: &mut [u8]) -> u16 {
+        unsafe { control_chart_version(text.as_mut_ptr().cast(), text.len()) }
+    }
 }
 
 // ---- Comparing
@@ -96,10 +105,6 @@ struct Comparing {
 }
 
 impl Comparing {
-    fn calling(&mut self, called: impl Into<String>) {
-        self.called = called.into();
-    }
-
     fn same<T: PartialEq + std::fmt::Debug>(&mut self, what: &str, expected: T, came: T) {
         self.comparisons += 1;
         if expected != came {
@@ -111,7 +116,7 @@ impl Comparing {
         }
     }
 
-    /// One comparison; of a difference the eight bytes around it are shown.
+    /// One comparison. If there is a difference, the eight bytes around it are shown.
     fn same_bytes(&mut self, what: &str, expected: &[u8], came: &[u8]) {
         let mut eights = expected.chunks(8).zip(came.chunks(8)).enumerate();
         match eights.find(|(_, (e, c))| e != c) {
@@ -125,85 +130,14 @@ fn hex(bytes: &[u8]) -> String {
     bytes.iter().map(|byte| format!("{byte:02x}")).collect()
 }
 
-// ---- The worked day
-
-fn worked_day(day: &mut Comparing) {
-    // The word of a check sample (kind 2), to collect a base: 0.990 mg/L found of 1.000 made up is 99.00 %.
-    let mut word = 0;
-    let answer = control_chart::word((2, 990, 1000, 0), &mut word);
-    day.calling("word of 990 of 1000");
-    day.same("answer", 0, answer);
-    day.same("word", 9900, word);
-
-    // Fifteen words make the chart. Its stored form stands at the front of the buffer.
-    let words = [9900, 9900, 9900, 9900, 9900, 9900, 9900, 10100, 10100, 10100, 10100, 10100, 10100, 10100, 10000];
-    let mut chart = [0; control_chart::FORM_MOST];
-    let (mut size, mut rounds, mut removed) = (0, 0, 0);
-    let answer = control_chart::build(2, &words, &mut chart, &mut size, &mut rounds, &mut removed);
-    day.calling("build");
-    day.same("answer", 0, answer);
-    day.same("size", 48, size);
-    day.same("rounds", 1, rounds);
-    day.same("removed", 0, removed);
-
-    // The lines for the plotter: mean, lower and upper warning limit, lower and upper control limit.
-    let mut lines = [0.0; control_chart::LINES_MOST];
-    let mut count = 0;
-    let answer = control_chart::lines(&chart[..size], &mut lines, &mut count);
-    day.calling("lines");
-    day.same("answer", 0, answer);
-    day.same("count", 5, count);
-    day.same("lines", [10000.0, 9800.0, 10200.0, 9700.0, 10300.0], lines);
-
-    // Each batch brings a check sample. Verdict 1 is beyond a control limit: hold the batch, analyse it again.
-    let mut verdict = 0;
-    for (found, must_word, must_verdict) in [(1002, 10020, 0), (1025, 10250, 0), (1031, 10310, 1)] {
-        let answer = control_chart::post(&mut chart, &mut size, (2, found, 1000, 0), &mut word, &mut verdict);
-        day.calling(format!("post of {found} of 1000"));
-        day.same("answer", 0, answer);
-        day.same("word", must_word, word);
-        day.same("verdict", must_verdict, verdict);
-    }
-
-    // Until then nothing more is posted: refusal 8, and the chart is as it was.
-    let answer = control_chart::post(&mut chart, &mut size, (2, 1001, 1000, 0), &mut word, &mut verdict);
-    day.calling("post of 1001 of 1000");
-    day.same("answer", 8, answer);
-
-    // 103.00 % is on the control limit, not beyond it: the reanalysis passes and takes the place of 103.10 %.
-    let mut passed = 0;
-    let answer = control_chart::reanalyse(&mut chart, &mut size, (2, 1030, 1000, 0), &mut word, &mut passed);
-    day.calling("reanalysis of 1030 of 1000");
-    day.same("answer", 0, answer);
-    day.same("word", 10300, word);
-    day.same("passed", 1, passed);
-
-    // These bytes go into a file or a database. When they come back, check says whether they hold a sound chart.
-    let must_form = [
-        // Record 1: kind 2, status 0, open verdict 0.
-        "08000100020000000000",
-        // Record 2, the base: 9900 seven times, 10100 seven times, 10000.
-        "20000200ac26ac26ac26ac26ac26ac26ac2674277427742774277427742774271027",
-        // Record 3, the series: 10020, 10250, 10300.
-        "0800030024270a283c28",
-    ];
-    let form = &chart[..size];
-    day.calling("the stored form");
-    day.same("size", 54, size);
-    day.same("bytes", must_form.concat(), hex(form));
-    let answer = control_chart::check(form);
-    day.calling("check");
-    day.same("answer", 0, answer);
-}
-
 // ---- Every function, with every refusal that it has
 
-/// Fills lent memory before a call, so that what the call leaves alone is seen.
+/// Fills lent memory before a call, to show what the call does not change.
 const FILL: u8 = 0x77;
 /// The bytes lent for a chart, more than the longest form.
 const LENT: usize = 820;
 
-/// A chart in lent memory, and the room that a call is told of.
+/// A chart in lent memory, and the room that a call gets.
 #[derive(Clone)]
 struct Chart {
     bytes: [u8; LENT],
@@ -221,7 +155,7 @@ impl Chart {
         self.bytes[at..at + 2].copy_from_slice(&(number as u16).to_le_bytes());
     }
 
-    /// A form that is made by hand. What is behind it stays.
+    /// A form made by hand. The bytes after it stay.
     fn put_form(&mut self, head: &[i64], base: &[i64], series: &[i64]) {
         self.size = 0;
         for (record, contents) in [(1, head), (2, base), (3, series)] {
@@ -237,7 +171,7 @@ impl Chart {
     }
 }
 
-/// The other memory that is lent; there are more words, flags and doubles than any call needs.
+/// The other lent memory, with more words, flags, doubles and bytes for a text than any call needs.
 struct Lent {
     words: [i16; 34],
     rounds: usize,
@@ -248,6 +182,7 @@ struct Lent {
     passed: u8,
     beyond: [u8; 7],
     lines: [f64; 7],
+    text: [u8; 200],
 }
 
 impl Lent {
@@ -263,14 +198,16 @@ impl Lent {
             passed: FILL,
             beyond: [FILL; 7],
             lines: [f64::from_ne_bytes([FILL; 8]); 7],
+            text: [FILL; 200],
         }
     }
 }
 
-/// A line of calls.txt: lists of numbers before and after `=`.
+/// A line of calls.txt: lists of numbers before and after `=`, and the text after the answer.
 struct Line {
     given: Vec<Vec<i64>>,
     must: Vec<Vec<i64>>,
+    text: String,
 }
 
 impl Line {
@@ -284,7 +221,7 @@ impl Line {
     }
 }
 
-/// Lists of numbers between `/`; "7*9900" stands for seven.
+/// Lists of numbers between `/`; "7*9900" stands for 9900 seven times.
 fn numbers_of(text: &str) -> Vec<Vec<i64>> {
     let number = |token: &str| token.parse::<i64>().expect("a number in calls.txt");
     let numbers = |token: &str| match token.split_once('*') {
@@ -297,7 +234,7 @@ fn numbers_of(text: &str) -> Vec<Vec<i64>> {
 /// The calls in calls.txt, on one chart in lent memory.
 struct Calls {
     comparing: Comparing,
-    /// The chart that is lent, and what it must be after the call; the same of the other memory.
+    /// The chart that is lent, and what it must be after the call; the same for the other memory.
     now: Chart,
     must: Chart,
     came: Lent,
@@ -323,11 +260,12 @@ impl Calls {
         comparing.same("passed", expected.passed, came.passed);
         comparing.same("beyond", expected.beyond, came.beyond);
         comparing.same("lines", expected.lines.map(f64::to_bits), came.lines.map(f64::to_bits));
+        comparing.same_bytes("text", &expected.text, &came.text);
         comparing.same("size", self.must.size, self.now.size);
         comparing.same_bytes("bytes", &self.must.bytes, &self.now.bytes);
     }
 
-    // Each of the nine calls puts what is expected where the answer is 0, and gives back the answer that came.
+    // Each of the twelve calls sets what is expected if the answer is 0, and gives back the answer that came.
 
     fn word(&mut self, line: &Line) -> u16 {
         if line.accepted() {
@@ -427,16 +365,46 @@ impl Calls {
         control_chart::check(self.now.form())
     }
 
+    /// The text and its 0 byte. The bytes after it stay.
+    fn expect_text(&mut self, line: &Line) {
+        if line.accepted() {
+            let length = line.text.len();
+            self.expected.text[..length].copy_from_slice(line.text.as_bytes());
+            self.expected.text[length] = 0;
+        }
+    }
+
+    fn refusal_text(&mut self, line: &Line) -> u16 {
+        self.expect_text(line);
+        let (number, room) = (line.given[0][0] as u32, line.given[0][1] as usize);
+        control_chart::refusal_text(number, &mut self.came.text[..room])
+    }
+
+    fn verdict_text(&mut self, line: &Line) -> u16 {
+        self.expect_text(line);
+        let (verdict, room) = (line.given[0][0] as u32, line.given[0][1] as usize);
+        control_chart::verdict_text(verdict, &mut self.came.text[..room])
+    }
+
+    fn version(&mut self, line: &Line) -> u16 {
+        self.expect_text(line);
+        control_chart::version(&mut self.came.text[..line.given[0][0] as usize])
+    }
+
     /// One line of calls.txt.
     fn step(&mut self, place: &str, text: &str) {
-        self.comparing.calling(format!("{place}: {text}"));
+        self.comparing.called = format!("{place}: {text}");
         let (name, rest) = text.split_once(' ').unwrap_or((text, ""));
         let (times, name) = name.split_once('*').unwrap_or(("1", name));
         if name == "form" {
             return self.comparing.same("bytes", rest.replace(' ', ""), hex(self.now.form()));
         }
         let (given, must) = rest.split_once('=').unwrap_or((rest, ""));
-        let line = Line { given: numbers_of(given), must: numbers_of(must) };
+        let (must, text) = match name {
+            "refusal_text" | "verdict_text" | "version" => must.trim_start().split_once(' ').unwrap_or((must, "")),
+            _ => (must, ""),
+        };
+        let line = Line { given: numbers_of(given), must: numbers_of(must), text: text.into() };
         let call = match name {
             "chart" => {
                 self.now = Chart::filled();
@@ -468,6 +436,9 @@ impl Calls {
             "lines" => Calls::lines,
             "against_lines" => Calls::against_lines,
             "check" => Calls::check,
+            "refusal_text" => Calls::refusal_text,
+            "verdict_text" => Calls::verdict_text,
+            "version" => Calls::version,
             _ => return self.comparing.same("name", "one that calls.txt explains", name),
         };
         for _ in 0..times.parse().expect("a number in calls.txt") {
@@ -477,14 +448,12 @@ impl Calls {
 }
 
 fn main() {
-    let Some(text) = std::env::args().nth(1).and_then(|path| std::fs::read_to_string(path).ok()) else {
+    let text = std::env::args().nth(1).and_then(|path| std::fs::read_to_string(path).ok()).unwrap_or_else(|| {
         eprintln!("client.rs: give the path of calls.txt");
-        exit(1);
-    };
-    let mut comparing = Comparing::default();
-    worked_day(&mut comparing);
+        exit(1)
+    });
     let (now, must, came, expected) = (Chart::filled(), Chart::filled(), Lent::filled(), Lent::filled());
-    let mut calls = Calls { comparing, now, must, came, expected };
+    let mut calls = Calls { comparing: Comparing::default(), now, must, came, expected };
     for (i, line) in text.lines().enumerate() {
         if !line.is_empty() && !line.starts_with('#') {
             calls.step(&format!("calls.txt line {}", i + 1), line);

@@ -8,10 +8,10 @@
  *     run@K=TEXT  at the entry of system call K the program waits while a shell does TEXT; then the call is done
  *
  * The calls are counted from 1, the first one after the program was loaded. LOG gets a line for each: its number in the
- * system's table, its first three arguments, the file names among its arguments, and behind `=` what it gave, or `-` where
- * it did not come back. The last line of LOG is `exit S` or `signal S`: how the program ended.
+ * system's table, its first three arguments, the file names among its arguments, and after `=` what it gave, or `-` if it
+ * did not come back. The last line of LOG is `exit S` or `signal S`: how the program ended.
  *
- * Exit status: 0 where the program ran; 125 where ptrace is not permitted; 124 where anything else failed.
+ * Exit status: 0 if the program ran, 125 if ptrace is not permitted, 124 if anything else failed.
  */
 #include <errno.h>
 #include <signal.h>
@@ -47,7 +47,7 @@ static int end(int status, const char *what) {
     return status;
 }
 
-/* Whether the text is an action, which is then kept. */
+/* Whether the text is an action. If so, it is kept. */
 static int take_action(const char *text) {
     struct action a = {KILL, 0, 0, NULL};
     int front = 0;
@@ -68,7 +68,7 @@ static const struct action *action_at(long call) {
     return NULL;
 }
 
-/* The program waits at the entry of a call. A call with the number -1 is one that the system does not do. */
+/* The program waits at the entry of a call. The system does not do a call with the number -1. */
 static long act(pid_t pid, const struct action *a, struct user_regs_struct regs) {
     if (a->what == RUN) return system(a->text);
     if (a->what == CUT) regs.rdx = (unsigned long long)a->number;
@@ -77,8 +77,8 @@ static long act(pid_t pid, const struct action *a, struct user_regs_struct regs)
     return a->what == KILL ? kill(pid, SIGKILL) : 0;
 }
 
-/* The text at an address of the program, up to its zero byte. A byte that is no printable character, and a blank, is
- * shown as ?. */
+/* The text at an address of the program, up to its zero byte. A blank and a character that is not printable are shown
+ * as ?. */
 static void put_text(pid_t pid, unsigned long long at, FILE *log) {
     fputc(' ', log);
     for (;; at++) {
@@ -110,7 +110,7 @@ static void put_call(pid_t pid, const struct user_regs_struct *r, FILE *log) {
     }
 }
 
-/* Follows the program, which waits before its first call, to its end. */
+/* Follows the program to its end. At the start it waits before its first call. */
 static int follow(pid_t pid, FILE *log) {
     struct user_regs_struct regs;
     int status, entered = 0, killed = 0;

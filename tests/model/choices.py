@@ -1,4 +1,4 @@
-"""Help for the generators: readings for a wanted word, words for a wanted verdict, a record of what was met."""
+"""Help for the generators: readings for a wanted word, words for a wanted verdict, a record of what occurred."""
 
 from math import isqrt
 
@@ -31,7 +31,7 @@ def formed(kind, numbers):
 
 
 def rounded(rng, kind, word):
-    """Three numbers whose word is the wanted one, mostly by rounding; halves are met often."""
+    """Three numbers whose word is the wanted one, mostly by rounding; halves occur often."""
     for _ in range(20):
         if kind == 1:
             total = rng.choice((rng.randint(1, 400), rng.randint(20000, 900000), rng.randint(1, 10 ** 9)))
@@ -177,7 +177,7 @@ def random_base(rng, kind, size=None, centre=None, spread=None):
 
 
 def applying(chart, command, fields):
-    """All numbers of the table that apply to a call by themselves, in the order of document 01."""
+    """All numbers of the table that apply to a call, each by itself, in the order of document 01."""
     found = []
     if command in ("post", "reanalyse", "correct", "renew", "lines", "write") and not model.sound(chart):
         found.append(14)
@@ -217,7 +217,7 @@ def applying(chart, command, fields):
 
 
 class Record:
-    """Lines, their answers by the model, and a table of what was met."""
+    """Lines, their answers by the model, and a table of what occurred."""
 
     def __init__(self):
         self.chart = model.ZEROS

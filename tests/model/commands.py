@@ -37,7 +37,7 @@ class Malformed(Exception):
 
 
 def number(field):
-    """Numbers: the value of a field. Of more than 30 digits only the sign and the great size are kept."""
+    """Numbers: the value of a field. Of a number with more than 30 digits only the sign and the great size are kept."""
     if not re.fullmatch(rb"-?[0-9]+", field):
         raise Malformed(NOT_NUMBER)
     digits = field.lstrip(b"-").lstrip(b"0")
@@ -144,7 +144,7 @@ def fields_of(line):
 
 
 def command_of(line):
-    """Comments: the first field of a line, or None where the line is empty or a comment."""
+    """Comments: the first field of a line, or None if the line is empty or a comment."""
     fields = fields_of(line)
     return None if not fields or fields[0].startswith(b"#") else fields[0]
 
@@ -152,7 +152,7 @@ def command_of(line):
 def step(chart, line):
     """One line, bare.
 
-    Gives the next chart, the answer line and the exit status; None and 0 where nothing is written.
+    Gives the next chart, the answer line and the exit status; None and 0 if nothing is written.
     """
     if len(line) > LINE_MOST:
         return chart, TOO_LONG, ERROR
@@ -204,12 +204,12 @@ def steps_of(data):
 
 
 def answers_of(data):
-    """All answers to an input, one for each line (None where nothing is written)."""
+    """All answers to an input, one for each line (None if nothing is written)."""
     return [answer for answer, _ in steps_of(data)]
 
 
 def status_of(data):
-    """Exit status: the highest of all answers to an input, 0 where there is none."""
+    """Exit status: the highest of all answers to an input, 0 if there is none."""
     return max((ended for _, ended in steps_of(data)), default=GO_ON)
 
 

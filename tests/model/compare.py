@@ -34,7 +34,7 @@ class Run:
         self.trouble = 0.08
 
     def fill(self, count):
-        """Adds commands until there are at least so many. The first line may have a mark in front."""
+        """Adds commands until there are at least this many. The first line may have a mark in front."""
         self.rec.raw(self.rng.choice((b"", MARK)) + b"show")
         for _ in range(20):
             self.on_zeros()
@@ -45,7 +45,7 @@ class Run:
             self.move()
 
     def few(self):
-        """A few commands, so that each exit status is met: the highest of thousands is nearly always the same."""
+        """A few commands, so that each exit status occurs: the highest of thousands is nearly always the same."""
         rng, rec = self.rng, self.rec
         kind = rng.choice(choices.KINDS)
         rec.build(kind, choices.random_base(rng, kind))
@@ -99,7 +99,7 @@ class Run:
         way = rng.choice((1, -1))
         low, high = 0, 20000
         while high - low > 1:
-            # The distance from which on the word is beyond, by halving.
+            # Halving finds the least distance at which the word is beyond.
             middle = (low + high) // 2
             tried = words[:place] + [words[place] + way * middle] + words[place + 1:]
             if model.distance(model.figures(tried), 3, tried[place]) > 0:
@@ -253,7 +253,7 @@ class Run:
         rec.do("show")
 
     def structured(self):
-        """A stored form with one of its records out of form, the others as they should be."""
+        """A stored form with a fault in one of its records. The others are as they should be."""
         rng = self.rng
         chart = self.random_chart(rng.choice(choices.KINDS))
         head = [chart.kind, chart.status, chart.verdict]
@@ -359,7 +359,7 @@ def last_set(rec, at):
 
 
 def report(rec, at, answer, place):
-    """One difference, with what is needed to meet it again."""
+    """One difference, with what is needed to repeat it."""
     print("difference at %s, line %d" % (place, at + 1))
     print("  command: " + printable(rec.lines[at]))
     print("  model:   " + printable(rec.answers[at] or b"(nothing)"))

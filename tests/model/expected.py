@@ -1,4 +1,4 @@
-"""Writes every expected file of the repository from the model, or compares those files with the files there.
+"""Writes every expected file of the repository from the model, or compares the files there with those of the model.
 
 python3 tests/model/expected.py             writes them
 python3 tests/model/expected.py --check     writes nothing, names each file that differs, and then ends with 1
@@ -15,7 +15,7 @@ import make_vectors
 MAKERS = (make_vectors, make_cases, make_calls, make_day)
 ROOT = os.path.join(os.path.dirname(os.path.abspath(__file__)), "..", "..")
 
-# Of a long line so many bytes are shown, and so many of them before the first that differs.
+# How many bytes of a long line are shown, and how many of them before the first that differs.
 SHOWN = 100
 BEFORE = 40
 
@@ -54,7 +54,7 @@ def lines_of(data):
 
 
 def part_of(lines, number, column):
-    """A line as text, cut where it is long; the number counts from 0."""
+    """A line as text, cut if it is long; the number counts from 0."""
     if number >= len(lines):
         return "the end of the file"
     line = lines[number]
@@ -78,7 +78,7 @@ def difference(wanted, found):
 
 
 def check(files, root):
-    """Compares all files with those that stand there: 0 if they are the same, else 1."""
+    """Compares all files with those in the repository: 0 if they are the same, else 1."""
     wrong = 0
     for path, data in files.items():
         found = standing(root, path)

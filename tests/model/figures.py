@@ -1,8 +1,8 @@
 """The figures of document 01 and the cases of its readings, as commands. A line of text stands above each case.
 
-A section is a tuple. A text in it is a heading. A tuple in it is a case: its label, then its commands. Where a label
-needs more, the rest stands in brackets at its end. A case goes on from the chart as it stands if it begins with
-neither `build` nor `read`.
+A section is a tuple. A text in it is a heading. A tuple in it is a case: its label, then its commands. If a label
+needs more, the rest is in brackets at its end. A case that begins with neither `build` nor `read` goes on from the
+chart as it is.
 """
 
 from itertools import groupby
@@ -127,7 +127,7 @@ def first_bytes(front, data, sizes):
 
 
 def sizes_form(base_size, series_size):
-    """A stored form of kind 2 with so many words of 1000."""
+    """A stored form of kind 2 with this many words of 1000."""
     return model.stored_form(Chart(2, (1000,) * base_size, (1000,) * series_size, 0, 0))
 
 
@@ -513,7 +513,7 @@ def say(rec, text):
 
 
 def put(rec, label, *lines):
-    """One case, with `show` where the chart was made or may have changed."""
+    """One case, with `show` if the chart was made or may have changed."""
     say(rec, label)
     for line in lines:
         answer = rec.raw(line.encode("ascii"))

@@ -1,7 +1,7 @@
 """One command on the chart in a file, as a function of the file's bytes and the command's line; and cases of it.
 
-The program is called as control_chart FILE COMMAND .. and the line is its arguments behind FILE, joined by one blank.
-python3 files.py prints how often each outcome is met by the cases.
+The program is called as control_chart FILE COMMAND .. and the line is its arguments after FILE, joined by one blank.
+python3 files.py prints how often each outcome occurs in the cases.
 """
 
 import random
@@ -13,7 +13,7 @@ import model
 from choices import exact
 from model import Chart
 
-# Commands after which the file may be another one.
+# Commands that may change the file.
 CHANGING = (b"build", b"post", b"reanalyse", b"correct", b"renew", b"read")
 
 # What is wrong with the file or the call. The program puts the name in front.
@@ -35,11 +35,11 @@ def wrong(told):
 
 
 def on_file(held, line):
-    """One command on the bytes of a file, or on None where there is no such file.
+    """One command on the bytes of a file, or on None if there is no such file.
 
-    Gives the new bytes (None where the file stays as it is, or missing), the text without its line feed, the exit
-    status, and whether the text is an error about the file. The line is taken as it is: the marks and carriage
-    returns that are passed over are those of standard input.
+    Gives the new bytes (None if the file stays as it is, or missing), the text without its line feed, the exit
+    status, and whether the text is an error about the file. The line is taken as it is: marks and carriage returns
+    are passed over on standard input only.
     """
     command = commands.command_of(line)
     if command is None:
@@ -69,7 +69,7 @@ FREE = Chart(2, A, (10020, 10250), 0, 0)
 FULL = Chart(2, A, (9990, 10010) * 183, 0, 0)
 LONGEST = Chart(2, (-20000,) * 32, (-20000,) * 366, 0, 0)
 
-# Charts that are not sound; behind each line stands why.
+# Charts that are not sound; the reason is at the end of each line.
 UNSOUND = (
     Chart(0, A, (), 0, 0), Chart(4, A, (), 0, 0), Chart(258, A, (), 0, 0),              # chart kind
     Chart(2, A, (), 3, 0), Chart(2, A, (10301,), 3, 1), Chart(2, A, (10301,), 257, 1),  # status
@@ -106,7 +106,7 @@ FAULTY = (b"x", b"help", b"Show", b"post2", b"show\x0b", b"\xc3\xa9", b"post 2 \
 
 
 def without_command():
-    """Lines with no command come first, whatever the file is."""
+    """Lines with no command: this error comes first, whatever the file is."""
     for held in (None, b"", model.stored_form(FREE), model.stored_form(UNSOUND[0])):
         for line in (b"", b" ", b"\t \t", b"#", b"# show", b" \t#build 2"):
             yield held, line
@@ -134,13 +134,13 @@ def files_damaged():
     # An even number of bytes more or fewer, and other lengths.
     yield from (form + b"\0\0", form[:-2] + form[-4:], form[2:], form + form, b"\0\0" + form, b"\x0a" + form[1:])
     yield from (longest[:-2], longest + b"\0", longest + b"\0\0", longest + bytes(100000), bytes(814), bytes(70000))
-    # Other files: the form as text, a form behind a mark, a form with a line feed behind it.
+    # Other files: the form as text, a form after a mark, a form with a line feed after it.
     yield from (form.hex().encode(), form.hex().upper().encode() + b"\n", form.hex(" ").encode(), commands.MARK + form)
     yield from (form + b"\n", form + b"\r\n", commands.shown(OUT).encode() + b"\n", BUILD_A + b"\n", b"\n")
 
 
 def damaged():
-    """Files that are no stored form: one command on each, another on the next; and every command on some."""
+    """Files that are no stored form: one command on each, another one on the next; and every command on some."""
     lines = EVERY + (b"x", b"post 2 x", b"read")
     for count, held in enumerate(files_damaged()):
         yield held, lines[count % len(lines)]
@@ -170,7 +170,7 @@ def opened(kind, base):
 
 
 def verdicts():
-    """Posts with each verdict, and what the open chart makes of the calls after it."""
+    """Posts with each verdict, and the calls after it on the open chart."""
     for kind, base in BASES:
         fresh = Chart(kind, base, (), 0, 0)
         for word in (base[-1], base[-1] + 300):

@@ -1,8 +1,8 @@
 """Calls beyond the commands, answered by the model: chart values with all their places, lent buffers, a word against
 the lines, whole lists of calls, the functions for C, and their texts.
 
-Written from document 01, from its readings and from the description in include/control_chart.h. As in the model, a
-refused call raises Refused; what was handed in or lent then still holds.
+It follows document 01, its readings and the description in include/control_chart.h. As in the model, a refused call
+raises Refused; what was handed in or lent is then unchanged.
 """
 
 from collections import namedtuple
@@ -53,7 +53,7 @@ def built(kind, words):
 
 
 def start_or_zeros(start, *given):
-    """Numbers for what is declined: the chart of start (built or model.read), of zeros where it is refused."""
+    """Numbers for what is declined: the chart of start (built or model.read), the chart of zeros if it is refused."""
     try:
         return start(*given)
     except Refused:
@@ -135,14 +135,14 @@ SIZE_MOST = 2 ** 64 - 1
 
 
 def held(number, least, most):
-    """The number, if its C type holds it: a client would cut another one before the call."""
+    """The number, if its C type holds it: a client would cut any other number before the call."""
     if not least <= number <= most:
         raise ValueError("%d is not in %d..%d" % (number, least, most))
     return number
 
 
 def reading(kind, a, b, c):
-    """The header: a kind is uint32_t, a reading int64_t. A kind that is none stays so, it is not cut to 16 bits."""
+    """The header: a kind is uint32_t, a reading int64_t. A number that is no kind is not cut to 16 bits."""
     return held(kind, 0, 2 ** 32 - 1), *(held(number, -2 ** 63, 2 ** 63 - 1) for number in (a, b, c))
 
 
@@ -156,7 +156,7 @@ REFUSAL_TEXTS = {
     0: "done",
     1: "the kind is not 1, 2 or 3",
     2: "there are not 15 to 32 words",
-    3: "a word of the base is out of range",
+    3: "a word given for the base is out of range",
     4: "the reading is of another kind than the chart",
     5: "a reading is not in 0..1000000000",
     6: "the divisor is 0",
@@ -165,7 +165,7 @@ REFUSAL_TEXTS = {
     9: "the series is full: it has 366 words",
     10: "no reanalysis is due",
     11: "no correction is due",
-    12: "base and series have fewer than 15 words",
+    12: "base and series together have fewer than 15 words",
     13: "the bytes are not a stored form",
     14: "there is no chart, or it is not sound",
     15: "the buffer is too short",
@@ -188,7 +188,7 @@ TEXT_MOST = 64
 
 
 def within(text, room):
-    """The header: the text, where the room holds it with its 0 byte. Refusal 15."""
+    """The header: the text, if the room holds it with its 0 byte. Refusal 15."""
     if held(room, 0, SIZE_MOST) < len(text) + 1:
         raise Refused(15)
     return text
@@ -245,7 +245,7 @@ class LentChart:
         return self.read()
 
     def put(self, chart, room):
-        """Puts a form to the front; the bytes behind it stay. Refusal 15."""
+        """Puts a form at the front; the bytes after it stay. Refusal 15."""
         form = model.stored_form(chart)
         if len(form) > held(room, 0, len(self.bytes)):
             raise Refused(15)

@@ -2,7 +2,7 @@
 
 python3 make_calls.py > calls
 
-calls_asked.txt is the made file without the answers behind `=` and without the bytes behind `form`. Its head describes
+calls_asked.txt is the made file without the answers after `=` and without the bytes after `form`. Its head describes
 each line. Comments and empty lines are kept. Each call is worked out on the bytes that the clients then lend.
 """
 
@@ -56,7 +56,7 @@ def in_runs(words):
 
 
 def in_records(form):
-    """A form as hex digits: head, lengths and record kinds of base and series, and their words, a blank between."""
+    """A form as hex digits: head, lengths and record kinds of base and series, and their words, with blanks between."""
     base = 14
     series = 12 + model.number_at(form, 10)
     parts = form[:10], form[10:base], form[base:series], form[series:series + 4], form[series + 4:]

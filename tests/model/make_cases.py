@@ -1,6 +1,6 @@
 """Makes the labels that the program cases reads, and its expected output: each label with its answer.
 
-Labels and inputs stand here, in the order in which the program runs the cases. Every answer comes from the model.
+Labels and inputs are here, in the order in which the program runs the cases. Every answer comes from the model.
 
 python3 make_cases.py > output
 """

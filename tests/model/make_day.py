@@ -2,7 +2,7 @@
 
 python3 make_day.py > day
 
-The readings of the day stand here. Every answer is worked out on lent bytes, with the functions for C.
+The readings of the day are here. Every answer is worked out on lent bytes, with the functions for C.
 """
 
 import sys
@@ -14,13 +14,13 @@ from model import Refused
 
 PATH = "examples/day.txt"
 
-# A check sample: the kind, and how much of the analyte was made up. The third reading does not count.
+# A check sample: the kind, and how much of the analyte was made up. The third reading is ignored.
 CHECK = 2
 MADE_UP = 1000
 
 # How much was found: for the base, in the posts of the day, and in the reanalysis.
 BASE = (990,) * 7 + (1010,) * 7 + (1000,)
-POSTS = (1002, 1025, 1031, 1001)
+POSTS = (1002, 1031, 1001)
 AGAIN = 1030
 
 

@@ -1,6 +1,6 @@
 """Makes the commands of the program control_chart and their answers, both from the model.
 
-python3 make_vectors.py writes nothing; it prints how often each outcome is met.
+python3 make_vectors.py writes nothing; it prints how often each outcome occurs.
 """
 
 import random
@@ -156,7 +156,7 @@ def builds(rec, rng):
         rec.build(kind, choices.random_base(rng, kind))
         rec.do(rng.choice(("show", "show", "lines")))
     for _ in range(40):
-        # Words that fall off by a factor: many rounds.
+        # A few words, each several times as far away as the one before: many rounds.
         kind = rng.choice(choices.KINDS)
         size = rng.randint(15, 32)
         few = rng.randint(3, 9)
@@ -171,7 +171,7 @@ def builds(rec, rng):
 
 
 def edge_word(kind, plain, way):
-    """The farthest word that stays when it is put among the plain words."""
+    """The farthest word that rejection does not remove when it is added to the plain words."""
     far = 5000
     while 0 < far < 20000:
         base = plain + [far + way]
@@ -366,7 +366,7 @@ def refused_while_open(rec, rng, most):
 
 
 def refusals(rec, rng):
-    """Refusals on a free and on an open chart, in every pairing that a command can meet."""
+    """Refusals on a free and on an open chart, in every pairing that can apply to a command."""
     comment(rec, "refusals and their order")
     for kind, base in BASES:
         rec.build(kind, base)
@@ -528,7 +528,7 @@ def renewals(rec, rng):
                     rec.read_chart(chart)
                     rec.do("renew")
                     rec.do("show")
-    # Rejection in renewal: the last words lie close together save a few.
+    # Rejection in renewal: the last words lie close together, except a few.
     for _ in range(60):
         kind = rng.choice(choices.KINDS)
         base = [4000] * 10 + [8000] * 10 + [6000] * rng.randint(0, 12)
@@ -754,7 +754,7 @@ def line_charts(rec, rng):
                 if rng.random() < 0.35:
                     rec.build(3, (centre - spread,) * half + (centre + spread,) * half + (centre,))
                     rec.do("lines")
-    # Lower limits just about 0: mean and S nearly in the proportion 2 or 3.
+    # Lower limits close to 0: the mean is nearly 2 or 3 times S.
     for _ in range(40):
         spread = rng.randint(1, 40)
         size = rng.randint(15, 32)
@@ -878,7 +878,7 @@ def language(rec):
 
 
 def fill(front, back, size, byte=b" "):
-    """A line of so many bytes."""
+    """A line of this many bytes."""
     return front + byte * (size - len(front) - len(back)) + back
 
 

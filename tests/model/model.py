@@ -1,7 +1,7 @@
 """A model of document 01, the paper on control charts. Whole numbers only.
 
 Each function names the heading of document 01 that it follows. A refused call raises
-Refused with the number from the table; the chart that was handed in then still holds.
+Refused with the number from the table; the chart that was handed in is then unchanged.
 """
 
 from collections import namedtuple
@@ -292,7 +292,7 @@ def stored_form(chart):
 
 
 def write(chart):
-    """Stored form: the bytes of a sound chart. Refusal 14; 15 cannot be met without a buffer."""
+    """Stored form: the bytes of a sound chart. Refusal 14; 15 cannot occur without a buffer."""
     if not sound(chart):
         raise Refused(14)
     return stored_form(chart)

@@ -27,7 +27,7 @@ ANSWERS = """\
 done
 the kind is not 1, 2 or 3
 there are not 15 to 32 words
-a word of the base is out of range
+a word given for the base is out of range
 the reading is of another kind than the chart
 a reading is not in 0..1000000000
 the divisor is 0
@@ -36,7 +36,7 @@ a reanalysis or a correction is due
 the series is full: it has 366 words
 no reanalysis is due
 no correction is due
-base and series have fewer than 15 words
+base and series together have fewer than 15 words
 the bytes are not a stored form
 there is no chart, or it is not sound
 the buffer is too short
@@ -70,7 +70,7 @@ def refusal(function, *given):
 
 
 def is_no_input(function, *given):
-    """Whether what is given is declined as no input at all."""
+    """Whether the function rejects what is given as no input at all."""
     try:
         function(*given)
     except ValueError:
@@ -219,7 +219,7 @@ def test_lists():
 
 
 def lent_chart(form, room=None, behind=b"\x77" * 6):
-    """Lent bytes with a form at their front and some bytes behind it."""
+    """Lent bytes with a form at their front and some bytes after it."""
     lent = LentChart(form + behind, len(form))
     lent.tell(len(form), len(form + behind) if room is None else room)
     return lent
@@ -248,7 +248,7 @@ def test_order_for_c():
         lent.tell(51, 51)
         same(refusal(getattr(lent, name), *given), 13)
         same((lent.bytes, lent.size), (unsound + b"\x77" * 6, 51))
-    # To each the later refusals apply too.
+    # The later refusals apply to each of these too.
     full = (10000,) * 365
     for series, status, verdict, given, wanted in (
             (full + (10301,), 1, 2, (4, -1, 0, 0), 14), (full + (10301,), 1, 1, (4, -1, 0, 0), 8),
@@ -299,7 +299,7 @@ def test_calls_for_c():
     same(lent.check(), ())
     same(lent.lines(5), (2560000, 2508800, 2611200, 2483200, 2636800))
     same(lent.against_lines(10201, 4), (0, 1, 0, 0))
-    # The renewal's form is shorter; the bytes behind it stay, the last two of the old form among them.
+    # The renewal's form is shorter; the bytes after it stay, also the last two of the old form.
     same(lent.renew(), (1, 0))
     same(lent.size, 48)
     same(lent.bytes[44:].hex(), "020003003c28" + "77" * 10)
@@ -383,7 +383,7 @@ def test_made_texts():
             same(line, "%s %d %d = %s" % (name, number, room, answer))
     same([line for line in made if line.startswith("version")],
          ["version 64 = 0 1.0.0", "version 6 = 0 1.0.0", "version 5 = 15", "version 1 = 15", "version 0 = 15"])
-    # They stand in a section of their own, behind all other calls, and the head has a line for each of them.
+    # They have a section of their own, after all other calls, and the head has a line for each of them.
     start = made.index("# ---- Texts refuse 15")
     names = {line.split()[0] for line in made[start:] if line and not line.startswith("#")}
     same(names, {"refusal_text", "verdict_text", "version"})

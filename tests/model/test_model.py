@@ -152,7 +152,7 @@ MET_IN_FILES = {
     b"help": (b"unknown",),
 }
 
-# Document 01, numbers for what is declined: the example of each number that a command can meet.
+# Document 01, numbers for what is declined: the example of each number that a command can answer.
 EXAMPLES = {
     "kind 4 (a word formed alone)": 1,
     "14 words (kind 2, 10000 each)": 2,
@@ -170,7 +170,7 @@ EXAMPLES = {
     "status 3": 14,
 }
 
-# The readings: the last answer of each example in them that a command can meet, without that of `show`.
+# The readings: the last answer of each example in them that a command can express, without that of `show`.
 READINGS = {
     1: {"duplicate X1 1, X2 2, third number -5": "word 6667", "check X 1000000001, A 0": "refused 5"},
     2: {"duplicate X1 0, X2 0": "refused 6", "check X 0, A 0": "refused 6", "spike SSR 5, SR 5, SA 0": "refused 6"},
@@ -233,7 +233,7 @@ READINGS = {
     32: {"A, posts 10301": "word 10301 verdict 1", "1000 fourteen times and 2000, posts 1001": "word 1001 verdict 1"},
 }
 
-# A day with a chart in a file: the readings behind post and reanalyse are found, made up, and 0. `# 1` is the status.
+# A day with a chart in a file: the readings after post and reanalyse are found, made up, and 0. `# 1` is the status.
 DAY_IN_FILE = """\
 build 2 9900 9900 9900 9900 9900 9900 9900 10100 10100 10100 10100 10100 10100 10100 10000
 built rounds 1 removed 0
@@ -243,9 +243,6 @@ lines 10000.00000000 9800.00000000 10200.00000000 9700.00000000 10300.00000000
 # 0
 post 2 1002 1000 0
 word 10020 verdict 0
-# 0
-post 2 1025 1000 0
-word 10250 verdict 0
 # 0
 post 2 1031 1000 0
 word 10310 verdict 1
@@ -257,7 +254,7 @@ reanalyse 2 1030 1000 0
 word 10300 passed
 # 0
 show
-chart kind 2 status 0 verdict 0 base 15 {A} series 3 10020 10250 10300
+chart kind 2 status 0 verdict 0 base 15 {A} series 2 10020 10300
 # 0
 """
 
@@ -267,16 +264,15 @@ word 9900
 built rounds 1 removed 0
 lines 10000.00000000 9800.00000000 10200.00000000 9700.00000000 10300.00000000
 word 10020 verdict 0: none
-word 10250 verdict 0: none
 word 10310 verdict 1: beyond a control limit
 refused 8: a reanalysis or a correction is due
 word 10300 passed
-kept 54 bytes
+kept 52 bytes
 """
 
-# The form at the end of the day: 24 27 is 10020, 0a 28 is 10250, 3c 28 is 10300.
+# The form at the end of the day: 24 27 is 10020, 3c 28 is 10300.
 DAY_FORM = bytes.fromhex("0800 0100 0200 0000 0000 2000 0200" + "ac26" * 7 + "7427" * 7 + "1027"
-                         + "0800 0300 2427 0a28 3c28")
+                         + "0600 0300 2427 3c28")
 
 PASSED = 0
 
@@ -691,7 +687,7 @@ def block_of(files):
 
 
 def cases_in(text):
-    """The cases of a text as FIGURES is."""
+    """The cases of a text in the form of FIGURES."""
     cases = []
     for line in text.split("\n")[:-1]:
         if line.startswith("# "):
@@ -720,7 +716,7 @@ def test_made():
 
 
 def test_block():
-    """The block of figures: each case once, and a heading for every reading that a command can meet."""
+    """The block of figures: each case once, and a heading for every reading that a command can express."""
     texts = block_of(made_files())
     labels = [text for text, steps in texts if steps]
     headings = [text for text, steps in texts if not steps]
@@ -771,7 +767,7 @@ def test_day():
     """The day of the examples: the made file, and the bytes that they keep."""
     same(make_day.files(), {"examples/day.txt": DAY})
     lines, form = make_day.day()
-    same(("".join(line + "\n" for line in lines).encode(), form, len(form)), (DAY, DAY_FORM, 54))
+    same(("".join(line + "\n" for line in lines).encode(), form, len(form)), (DAY, DAY_FORM, 52))
     # The same day with a chart in a file leaves the same bytes.
     session = Session()
     day_in_file(session, "lead.chart")
@@ -838,7 +834,7 @@ def said(function, *given):
 
 
 def test_expected():
-    """The driver: what differs is found, named and cut; nothing is written by a check."""
+    """expected.py: it finds what differs, names it and cuts it; a check writes nothing."""
     same(expected.difference(b"a\nb\n", b"a\nb\n"), None)
     same(expected.difference(b"a\nb\n", b"a\nc\n"), (2, r"'b\n'", r"'c\n'"))
     same(expected.difference(b"a\nb\n", b"a\nb"), (2, r"'b\n'", "'b'"))

@@ -6,7 +6,7 @@
     # printf 'word 1 65 63 0\\n' | control_chart
     session.input_commands("word 1 65 63 0\\n")
 
-Each gives the text that the program prints on standard output and standard error, with a line feed behind each line.
+Each gives the text that the program prints on standard output and standard error, with a line feed after each line.
 After it, `session.status` is the exit status. `session.files` has the bytes of each file by its name; the caller may
 copy, change and remove files there. Every file can be read and written, and no other command is at work on it.
 """
@@ -26,7 +26,7 @@ class Session:
         self.status = commands.GO_ON
 
     def file_command(self, name, arguments):
-        """control_chart FILE COMMAND ..: the text of its one line. The arguments are those behind FILE."""
+        """control_chart FILE COMMAND ..: the text of its one line. The arguments are those after FILE."""
         if name == "" or name.startswith("-") or name in NOT_FILES:
             raise ValueError("%r: the model answers for files only" % name)
         line = " ".join(arguments)
