@@ -11,7 +11,7 @@ DAY_SH = "examples/day.sh"
 TIME_MOST = 60
 
 # The document, the file, and how a line of the block begins, by which it is found.
-TEXTS = ((README, "examples/day.c", "#include"), ("docs/REFUSALS.md", "examples/night.sh", "#!"))
+TEXTS = ((README, "examples/day.c", "#include"), ("docs/REFUSALS.md", "examples/post_results.sh", "#!"))
 
 
 def printed(tree):

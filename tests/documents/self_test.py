@@ -276,7 +276,7 @@ FILES = {
     "tests/model/README.md": "# Model\n",
     "examples/day.c": '#include "control_chart.h"\n\nint main(void);\n',
     "examples/day.sh": DAY_SH,
-    "examples/night.sh": "#!/bin/sh\nexit 0\n",
+    "examples/post_results.sh": "#!/bin/sh\nexit 0\n",
     "include/control_chart.h": HEADER,
     "bin/control_chart": PROGRAM,
     "bin/help": HELP,
@@ -396,7 +396,7 @@ CASES = [
     case("another C text", examples, "examples/day.c", "main(void)", "main()", "README.md:15: found int main(void);; expected int main();"),
     case("a C text that ends early", examples, "README.md", "\n    int main(void);\n", "", "README.md:14: found no such line"),
     case("no C text", examples, "README.md", "#include", "include", "README.md: found 0 blocks of examples/day.c"),
-    case("another script", examples, "examples/night.sh", "exit 0", "exit 1", "docs/REFUSALS.md:4: found exit 0; expected exit 1"),
+    case("another script", examples, "examples/post_results.sh", "exit 0", "exit 1", "docs/REFUSALS.md:4: found exit 0; expected exit 1"),
     case("another day", examples, "examples/day.sh", "a remark", "a mark", "README.md:9: found # a remark; expected # a mark"),
     case("a day that goes on", examples, "examples/day.sh", "echo '#", "echo more\necho '#", "README.md:9: found # a remark; expected more"),
 

@@ -1,10 +1,13 @@
 -- The exit status of a command on a file, and the words that ask for help.
 use mathlib.Core.Path.{_≡_}
-use mathlib.Core.Bool.{Bool, _||_}
+use mathlib.Core.Bool.{Bool, true, false, _||_}
 use mathlib.Core.List.{List}
 use Prim.Native.Nat.{ℕ}
 use Rattle.parsing.specs.Bytes.{sameBytes}
 use Rattle.printing.specs.Ascii.{ascii}
+use Rattle.outcomes.specs.declared.Outcome.{Outcome}
+use Rattle.outcomes.specs.declared.Outcome.the-variants as outcome
+use Rattle.outcomes.specs.OnFile.{Ending}
 use Rattle.outcomes.specs.Status.{statusOf}
 
 -- the status of the answer, or 3 if the answer could not be written, or the file not replaced or synced. The system's calls decide which of
@@ -12,6 +15,18 @@ use Rattle.outcomes.specs.Status.{statusOf}
 pub data StatusBy (text : List ℕ) (status : ℕ) : Type 0 where
   ofAnswer : status ≡ statusOf text → StatusBy text status
   ofError : status ≡ 3 → StatusBy text status
+
+-- the command is answered, with the file changed or as it was
+abbrev pub isAnswered : Outcome → Bool
+isAnswered outcome.Changed = true
+isAnswered outcome.Answered = true
+isAnswered outcome.Fault = false
+isAnswered outcome.NoRoom = false
+
+-- the status of what a command on a file comes to. Only a command that is answered has another status than 3
+pub data StatusOfEnding (e : Ending) (status : ℕ) : Type 0 where
+  answered : isAnswered (e .outcome) ≡ true → StatusBy (e .text) status → StatusOfEnding e status
+  inError : status ≡ 3 → StatusOfEnding e status
 
 unfoldable pub asksForHelp : List ℕ → Bool
 asksForHelp word = (sameBytes word (ascii "--help") || sameBytes word (ascii "-h")) || sameBytes word (ascii "help")

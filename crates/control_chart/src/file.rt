@@ -21,7 +21,8 @@ use outcomes::names::may_change;
 use outcomes::on_file;
 use outcomes::status::exit_status;
 use system::Permissions;
-ghost use Rattle.control_chart.specs.Status.{StatusBy};
+ghost use Rattle.outcomes.specs.OnFile.{heldIn, startOf, ending};
+ghost use Rattle.control_chart.specs.Status.{StatusBy, StatusOfEnding};
 
 // More than the longest stored form, which has 814 bytes.
 const FILE_ROOM: usize = 1024;
@@ -61,7 +62,9 @@ fn look_at_file(path: &[u8], line: &[u8]) -> u8 {
 
 // The last arm is never reached. A command that may not change the chart never changes the file (`only-read` in `outcomes/proofs/Files`),
 // and the buffer has room for every form (`room-enough`).
-fn say_look(path: &[u8], there: bool, held: &[u8], line: &[u8]) -> u8 {
+fn say_look(path: &[u8], there: bool, held: &[u8], line: &[u8]) -> u8
+    ensures { λ r. ⌜ StatusOfEnding (ending (startOf (heldIn there (now (held .entry))) (now (line .entry))) (now (line .entry)) 1024) r ⌝ }
+{
     let mut form = [0u8; FILE_ROOM];
     let mut out = [0u8; ANSWER_MOST];
     let r = on_file(there, held, line, &mut form, &mut out);
@@ -138,7 +141,9 @@ fn change_held(
     there: bool,
     held: &[u8],
     line: &[u8],
-) -> u8 {
+) -> u8
+    ensures { λ r. ⌜ StatusOfEnding (ending (startOf (heldIn there (now (held .entry))) (now (line .entry))) (now (line .entry)) 1024) r ⌝ }
+{
     let mut form = [0u8; FILE_ROOM];
     let mut out = [0u8; ANSWER_MOST];
     let r = on_file(there, held, line, &mut form, &mut out);
