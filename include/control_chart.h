@@ -1,8 +1,8 @@
 /* Control charts for laboratories: the C interface, for x86-64 Linux.
  *
  * Results of duplicate, check and spike samples become words. A chart is built from 15 to 32 words and judges every further one. The
- * functions are proved, in Rattle: on every input they answer what the paper "Control charts for duplicate, check and spike results" fixes.
- * No proof covers this header: tests compare it with the functions.
+ * functions are proved, in Rattle: on every input they answer what the paper "Control charts for duplicate, check and spike results" fixes,
+ * with the changes that docs/CHANGES.md lists. No proof covers this header: tests compare it with the functions.
  *
  * A WORD is a percentage in hundredths: 10000 is 100 %. A READING is a whole number in the method's smallest digit: 0.123 mg/L at three
  * decimals is 123. A kind and three readings give a word:
@@ -40,7 +40,7 @@
 #include <stdint.h>
 
 /* The version, as `control_chart --version` prints it. */
-#define CONTROL_CHART_VERSION "1.0.0"
+#define CONTROL_CHART_VERSION "1.1.0"
 
 #ifdef __cplusplus
 extern "C" {
@@ -101,11 +101,11 @@ uint16_t control_chart_build(uint32_t kind, const int16_t *words, size_t count,
                              size_t *rounds, size_t *removed);
 
 /* Forms the word of the readings, judges it and adds it to the series. The form becomes two bytes longer. *word: the word; *verdict: the
- * lowest of these that applies, or 0:
+ * first of these that applies, in this order:
  *     1   beyond a control limit: a reanalysis is due
  *     2   this word and the one before it in the series are beyond the warning limit on the same side: a reanalysis is due
- *     3   the last seven words of the series rise strictly, or fall strictly: a reanalysis is due
  *     4   kinds 2 and 3: the last seven words of the series are all above the mean, or all below it: a correction is due
+ *     3   the last seven words of the series rise strictly, or fall strictly: a reanalysis is due
  *     0   none of these: the chart stays free
  * Refuses with 13, 14, 8, 9, 4, 5, 6, 7, 15. */
 uint16_t control_chart_post(uint8_t *chart, size_t room, size_t *size,
@@ -149,7 +149,8 @@ uint16_t control_chart_lines(const uint8_t *chart, size_t size,
 uint16_t control_chart_against_lines(const uint8_t *chart, size_t size, int32_t word,
                                      uint8_t *beyond, size_t room);
 
-/* Tests whether the bytes are the stored form of a sound chart (docs/RULES.md, 9.5).
+/* Tests whether the bytes are the stored form of a sound chart (docs/RULES.md, 9.5). If version 1.0.0 left a chart open under verdict 3,
+ * though 4 applies, the chart is not sound in version 1.1.0: close it with version 1.0.0 (docs/C.md, Keeping a chart).
  * Refuses with 13, 14. */
 uint16_t control_chart_check(const uint8_t *chart, size_t size);
 

@@ -138,7 +138,7 @@ impl Limits {
         self.beyond_upper(m, word) || self.beyond_lower(m, word)
     }
 
-    /// The verdict on a word that follows the words before it in the series.
+    /// The verdict on a word that follows the words before it in the series: the first that applies, in the order 1, 2, 4, 3.
     fn judge(&self, before: &[Stored], word: i16) -> u16 {
         if self.beyond(CONTROL, word) {
             return 1;
@@ -158,11 +158,11 @@ impl Limits {
         for (place, &stored) in run.iter_mut().zip(last) {
             *place = i16::from_le_bytes(stored);
         }
-        if run.windows(2).all(|pair| pair[0] < pair[1]) || run.windows(2).all(|pair| pair[0] > pair[1]) {
-            return 3;
-        }
         if self.two_sided && (run.iter().all(|&word| self.above_mean(word) > 0) || run.iter().all(|&word| self.above_mean(word) < 0)) {
             return 4;
+        }
+        if run.windows(2).all(|pair| pair[0] < pair[1]) || run.windows(2).all(|pair| pair[0] > pair[1]) {
+            return 3;
         }
         0
     }

@@ -277,12 +277,18 @@ fn verdicts() {
     assert_eq!(a().post([10_200, 10_201, 10_200, 10_201]), [0; 4]);
     assert_eq!(a().post([9799, 9799]), [0, 2]);
     assert_eq!(a().post(by(9950, 10, 7)), [0, 0, 0, 0, 0, 0, 3]);
-    assert_eq!(a().post(by(10_010, 10, 7)), [0, 0, 0, 0, 0, 0, 3]);
     assert_eq!(a().post(by(10_050, -10, 7)), [0, 0, 0, 0, 0, 0, 3]);
     assert_eq!(a().post([9950, 9960, 9970, 9970, 9980, 9990, 10_000, 10_010, 10_020]), [0; 9]);
     assert_eq!(a().post([10_001; 7]), [0, 0, 0, 0, 0, 0, 4]);
     assert_eq!(a().post([9999; 7]), [0, 0, 0, 0, 0, 0, 4]);
     assert_eq!(a().post([10_001, 10_001, 10_001, 10_000, 10_001, 10_001, 10_001, 10_001]), [0; 8]);
+    // If a run rises or falls and stays on one side, 4 comes before 3; 1 and 2 come before both. Kind 1 has no 4.
+    assert_eq!(a().post(by(10_010, 10, 7)), [0, 0, 0, 0, 0, 0, 4]);
+    assert_eq!(a().post(by(9990, -10, 7)), [0, 0, 0, 0, 0, 0, 4]);
+    assert_eq!(a().post(by(10_000, 10, 7)), [0, 0, 0, 0, 0, 0, 3]);
+    assert_eq!(a().post([10_110, 10_120, 10_130, 10_140, 10_150, 10_210, 10_250]), [0, 0, 0, 0, 0, 0, 2]);
+    assert_eq!(a().post([10_110, 10_120, 10_130, 10_140, 10_150, 10_160, 10_301]), [0, 0, 0, 0, 0, 0, 1]);
+    assert_eq!(k().post(by(1010, 10, 7)), [0, 0, 0, 0, 0, 0, 3]);
     assert_eq!(k().post([790, 790]), [0, 0]);
     assert_eq!(k().post([1001; 20]), [0; 20]);
     assert_eq!(k().post([1250, 1210]), [0, 2]);
@@ -306,14 +312,20 @@ fn reanalyses() {
     assert_eq!(ask(&a_after(vec![10_301]), &[9699, 9700, 10_300, 10_301]), [false, true, true, false]);
     assert_eq!(ask(&a_after(vec![10_250, 10_210]), &[9790, 9799, 9800, 10_200, 10_201]), [false, false, true, true, false]);
     assert_eq!(ask(&a_after(by(9950, 10, 7)), &[9995, 10_010, 9600, 10_100, 10_099]), [true, true, false, false, true]);
-    assert_eq!(ask(&a_after(by(10_110, 10, 7)), &[10_160, 10_159]), [false, true]);
-    assert_eq!(ask(&a_after(by(9890, -10, 7)), &[9840, 9841, 10_301]), [false, true, false]);
+    let rising = [vec![9990], by(10_110, 10, 6)].concat();
+    assert_eq!(ask(&a_after(rising), &[10_150, 10_149]), [false, true]);
+    let falling = [vec![10_010], by(9890, -10, 6)].concat();
+    assert_eq!(ask(&a_after(falling), &[9850, 9851, 10_301]), [false, true, false]);
     let mut desk = a();
     assert_eq!(desk.post([10_150; 7]), [0, 0, 0, 0, 0, 0, 4]);
     assert_eq!(desk.reanalyse_reading(2, [10_000, 10_000, 0]), Err(10));
     assert_eq!(desk.correct(), 0);
     assert_eq!(desk.state(), (1, 4));
     assert_eq!(ask(&desk, &[9600, 9700, 10_000, 10_100, 10_099]), [false, true, true, false, true]);
+    let mut desk = a();
+    desk.post(by(10_110, 10, 7));
+    assert_eq!((desk.state(), desk.correct(), desk.state()), ((2, 4), 0, (1, 4)));
+    assert_eq!(ask(&desk, &[10_159, 10_100, 10_099]), [false, false, true]);
     // "Near" is two-sided for kind 1 too, and never true if S is 0.
     let mut desk = k();
     assert_eq!(desk.post(by(1010, -10, 7))[6], 3);
@@ -436,7 +448,11 @@ fn forms() {
     // Statuses 1 and 2 each go with every verdict 1 to 4, but the verdict has to be that of the last word.
     assert_eq!(check([2, 1, 4], &[10_001; 7]), 0);
     assert_eq!(check([2, 2, 1], &[10_301]), 0);
-    assert_eq!([0, 1, 2, 3, 4, 5].map(|verdict| check([2, 1, verdict], &by(10_010, 10, 7))), [14, 14, 14, 0, 14, 14]);
+    assert_eq!([0, 1, 2, 3, 4, 5].map(|verdict| check([2, 1, verdict], &by(9950, 10, 7))), [14, 14, 14, 0, 14, 14]);
+    // A rising run on one side is open under 4, with either status.
+    for status in [1, 2] {
+        assert_eq!([0, 1, 2, 3, 4, 5].map(|verdict| check([2, status, verdict], &by(10_010, 10, 7))), [14, 14, 14, 14, 0, 14]);
+    }
     assert_eq!([0, 1, 2].map(|status| check([2, status, 0], &[10_000])), [0, 14, 14]);
 }
 

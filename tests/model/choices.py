@@ -112,6 +112,10 @@ def plan(rng, chart, wanted, side=None):
             room = max(1, (top - bottom) // 8)
             steps = [rng.choice((1, rng.randint(1, room))) for _ in range(6)]
             first = rng.randint(bottom, top)
+            if kind != 1:
+                # document 02, Q-1: a run on one side is 4. A word of this one is at the mean or next to it.
+                steps[rng.randrange(6)] += rng.choice((0, (top - bottom) // 6))
+                first = mean + rng.choice((-1, 0, 1)) - way * sum(steps[:rng.randrange(7)])
             words = [first]
             for size in steps:
                 words.append(words[-1] + way * size)
@@ -121,6 +125,9 @@ def plan(rng, chart, wanted, side=None):
                 continue
             pool = [rng.randint(near, far), near, far, mean + way]
             words = [rng.choice(pool) for _ in range(7)]
+            if far - near >= 6 and rng.random() < 0.4:
+                # document 02, Q-1: a run that is 3 too.
+                words = sorted(rng.sample(range(near, far + 1), 7), reverse=rng.random() < 0.5)
         if not all(least_word(kind) <= word <= 20000 for word in words):
             continue
         for start in range(len(words)):
@@ -174,6 +181,29 @@ def random_base(rng, kind, size=None, centre=None, spread=None):
         rng.shuffle(words)
     least = 0 if kind == 1 else -20000
     return [min(20000, max(least, word)) for word in words]
+
+
+def trend(chart):
+    """The last seven words as a trend: rising or falling; above, below or across the mean. None without a trend."""
+    seven = chart.series[-7:]
+    way = model.run(seven)
+    if len(seven) < 7 or way == 0:
+        return None
+    of_base = model.figures(chart.base)
+    sides = {model.side(of_base, word) for word in seven}
+    where = "above" if sides == {1} else "below" if sides == {-1} else "across"
+    return "rising" if way > 0 else "falling", where
+
+
+def reason(chart, word):
+    """A chart open under 3 and the word of a reanalysis: what it passes by, or that it fails."""
+    of_base = model.figures(chart.base)
+    turned = word < chart.series[-2] if trend(chart)[0] == "rising" else word > chart.series[-2]
+    near = model.near(of_base, word)
+    if model.beyond(chart.kind, of_base, 3, word) or not near and not turned:
+        return "failed"
+    by = "both" if near and turned else "being near alone" if near else "turning back alone"
+    return "passed by " + by
 
 
 def applying(chart, command, fields):
@@ -292,10 +322,19 @@ class Record:
             return
         if command == "post":
             self.count("post kind %d verdict %s" % (before.kind, text.split()[-1]))
+            if trend(self.chart):
+                self.count("post kind %d verdict %s on a trend, %s %s the mean" % (
+                    before.kind, text.split()[-1], *trend(self.chart)))
             if len(before.series) >= 365:
                 self.count("post as word 366, verdict %s" % text.split()[-1])
         elif command == "reanalyse":
             self.count("reanalyse kind %d verdict %d %s" % (before.kind, before.verdict, text.split()[-1]))
+            if before.verdict == 3:
+                self.count("reanalyse kind %d verdict 3, %s, %s" % (
+                    before.kind, trend(before)[0], reason(before, int(text.split()[1]))))
+            elif before.verdict == 4 and trend(before):
+                self.count("reanalyse kind %d verdict 4 on a trend, %s %s the mean, %s" % (
+                    before.kind, *trend(before), text.split()[-1]))
             if len(before.series) == 366:
                 self.count("reanalyse on a full series, %s" % text.split()[-1])
         elif command in ("build", "renew"):

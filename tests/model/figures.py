@@ -1,4 +1,6 @@
-"""The figures of document 01 and the cases of its readings, as commands. A line of text stands above each case.
+"""The figures of document 01, as document 02 changes them, and the cases of the readings of both, as commands.
+
+A line of text stands above each case.
 
 A section is a tuple. A text in it is a heading. A tuple in it is a case: its label, then its commands. If a label
 needs more, the rest is in brackets at its end. A case that begins with neither `build` nor `read` goes on from the
@@ -24,11 +26,12 @@ M = 2, (-10000,) * 7 + (-10001,) * 8
 N = 3, (-1,) * 7 + (0,) * 8
 P = 3, (1,) * 7 + (0,) * 8
 Q = 3, (0,) * 2 + (1,) + (2,) * 6 + (3,) * 5 + (4,) * 5
+R = 3, (-1100,) * 7 + (-900,) * 7 + (-1000,)
 T = 1, (0,) * 10 + (1, 12, 144, 1728, 20000)
 W = 2, (-20000,) * 16 + (20000,) * 16
 Z = 1, (1000,) * 15
-LETTERS = {"A": A, "C": C, "D": D, "E": E, "F": F, "G": G, "H": H, "K": K, "M": M, "N": N, "P": P, "Q": Q, "T": T,
-           "W": W, "Z": Z}
+LETTERS = {"A": A, "C": C, "D": D, "E": E, "F": F, "G": G, "H": H, "K": K, "M": M, "N": N, "P": P, "Q": Q, "R": R,
+           "T": T, "W": W, "Z": Z}
 
 # Words for other bases.
 HIGH = (1000,) * 14 + (2000,)
@@ -42,13 +45,26 @@ UP = range(9950, 10011, 10)
 DOWN = range(10050, 9989, -10)
 UP_ABOVE = range(10010, 10071, 10)
 UP_FAR = range(10110, 10171, 10)
+UP_ACROSS = (9990, *range(10110, 10161, 10))
+DOWN_ACROSS = (10010, *range(9890, 9839, -10))
+UP_BELOW = range(9930, 9991, 10)
+DOWN_BELOW = range(9990, 9929, -10)
+SIX_ABOVE = (9990, *range(10010, 10061, 10))
 K_DOWN = range(1010, 949, -10)
+K_UP_ABOVE = range(1010, 1071, 10)
+K_DOWN_BELOW = range(990, 929, -10)
+R_DOWN_BELOW = range(-1010, -1071, -10)
 Z_UP = range(100, 701, 100)
 
 # Charts that cases start from.
 FRESH = Chart(*A, (), 0, 0)
 AFTER_UP = Chart(*A, tuple(UP), 1, 3)
-AFTER_UP_FAR = Chart(*A, tuple(UP_FAR), 1, 3)
+AFTER_UP_ACROSS = Chart(*A, UP_ACROSS, 1, 3)
+AFTER_DOWN_ACROSS = Chart(*A, DOWN_ACROSS, 1, 3)
+AFTER_SIX_ABOVE = Chart(*A, SIX_ABOVE, 1, 3)
+AFTER_UP_ABOVE = Chart(*A, tuple(UP_ABOVE), 2, 4)
+AFTER_UP_FAR = Chart(*A, tuple(UP_FAR), 2, 4)
+UP_FAR_CORRECTED = AFTER_UP_FAR._replace(status=1)
 AFTER_TWO = Chart(*A, (10250, 10210), 1, 2)
 AFTER_OUT = Chart(*A, (10250, 10301), 1, 1)
 AFTER_SIDE = Chart(*A, (10150,) * 7, 2, 4)
@@ -119,6 +135,12 @@ def edits(front, chart, places):
             if "word" in name and number > 32767:
                 label += " (%d as a word)" % model.signed(number)
             yield label, read(changed(model.stored_form(chart), place, number))
+
+
+def opened(front, base, series, heads):
+    """Cases: a chart stored with each status and open verdict."""
+    for head in heads:
+        yield ("%s, status %d, verdict %d" % (front, *head), read(Chart(*base, tuple(series), *head)))
 
 
 def first_bytes(front, data, sizes):
@@ -229,10 +251,11 @@ POSTS = (
     ("A, posts 9750 9790", *posted(A, 9750, 9790)),
     ("A, posts 10200 10210", *posted(A, 10200, 10210)),
     ("A, posts 10210 10200", *posted(A, 10210, 10200)),
-    "document 01, figures: seven words that rise or fall strictly are 3, though 4 applies too",
+    "document 01, figures, READINGS-02 3: seven words that rise or fall strictly are 3; these cross the mean",
     ("A, posts 9950 up to 10010 by tens", *posted(A, *UP)),
-    ("A, posts 10010 up to 10070 by tens", *posted(A, *UP_ABOVE)),
     ("A, posts 10050 down to 9990 by tens", *posted(A, *DOWN)),
+    "document 02, Q-1: the course's seven posts from 10010 to 10070 now end in 4, though 3 applies too",
+    ("A, posts 10010 up to 10070 by tens", *posted(A, *UP_ABOVE)),
     "document 01, mistakes that look reasonable: equal neighbours continue no trend, and six words are none",
     ("A, posts 9950 up to 10000 by tens and 10000", *posted(A, *UP[:6], 10000)),
     ("A, posts 9950 up to 10000 by tens", *posted(A, *UP[:6])),
@@ -272,10 +295,14 @@ REANALYSIS = (
     "READINGS 14: 10010 passes since it is near the mean, and the next post is 3 again",
     ("A after 9950 up to 10010: 10010", *reanalysed(AFTER_UP, 10010)),
     ("A after that, posts 10020 (that: 9950 up to 10010, reanalysis 10010)", *posts(2, [10020])),
-    "READINGS 16: the word must be strictly below the one before the last",
-    ("A, posts 10110 up to 10170 by tens", *posted(A, *UP_FAR)),
-    ("A after 10110 up to 10170: 10160", *reanalysed(AFTER_UP_FAR, 10160)),
-    ("A after 10110 up to 10170: 10159", *reanalysed(AFTER_UP_FAR, 10159)),
+    "READINGS 16: the word must be strictly below the one before the last; the run crosses the mean and so stays 3",
+    ("A, posts 9990 and 10110 up to 10160 by tens", *posted(A, *UP_ACROSS)),
+    ("A after 9990 and 10110 up to 10160: 10150", *reanalysed(AFTER_UP_ACROSS, 10150)),
+    ("A after 9990 and 10110 up to 10160: 10149", *reanalysed(AFTER_UP_ACROSS, 10149)),
+    "READINGS 16: in a falling run it must be strictly above that one",
+    ("A, posts 10010 and 9890 down to 9840 by tens", *posted(A, *DOWN_ACROSS)),
+    ("A after 10010 and 9890 down to 9840: 9850", *reanalysed(AFTER_DOWN_ACROSS, 9850)),
+    ("A after 10010 and 9890 down to 9840: 9851", *reanalysed(AFTER_DOWN_ACROSS, 9851)),
     "READINGS 17: for verdict 2 neither warning limit may be passed",
     ("A, posts 10250 10210 (the start of the reanalyses that follow)", *posted(A, 10250, 10210)),
     ("A after 10250 10210: 9790", *reanalysed(AFTER_TWO, 9790)),
@@ -483,6 +510,85 @@ LISTS = (
     ("stored N, one call", read(Chart(*N, (), 0, 0)), "post 3 0 1 20000", "show", "lines"),
 )
 
+THREE_AND_FOUR = ((1, 3), (2, 3), (1, 4), (2, 4))
+
+ONE_SIDE = (
+    "READINGS-02 1: the order is 1, 2, 4, 3; in these 4 and 3 apply too",
+    ("A, posts 10110 up to 10150 by tens and 10210 10250", *posted(A, *UP_FAR[:5], 10210, 10250)),
+    ("A, posts 9890 down to 9850 by tens and 9790 9750", *posted(A, *DOWN_ACROSS[1:6], 9790, 9750)),
+    ("A, posts 10110 up to 10160 by tens and 10301", *posted(A, *UP_FAR[:6], 10301)),
+    ("A, posts 9890 down to 9840 by tens and 9699", *posted(A, *DOWN_ACROSS[1:], 9699)),
+    ("A, posts 10110 up to 10150 by tens and 10210 10301", *posted(A, *UP_FAR[:5], 10210, 10301)),
+    "READINGS-02 1: kind 1 has no 4, so that a trend on one side stays 3",
+    ("K, posts 1010 up to 1070 by tens", *posted(K, *K_UP_ABOVE)),
+    ("K, posts 1070 down to 1010 by tens", *posted(K, *reversed(K_UP_ABOVE))),
+    ("K, posts 990 down to 930 by tens", *posted(K, *K_DOWN_BELOW)),
+    ("K, posts 930 up to 990 by tens", *posted(K, *reversed(K_DOWN_BELOW))),
+    "document 02, Q-1: 4 is answered on both sides, in a rising and in a falling run, for kinds 2 and 3",
+    ("A, posts 10070 down to 10010 by tens", *posted(A, *reversed(UP_ABOVE))),
+    ("A, posts 9990 down to 9930 by tens", *posted(A, *DOWN_BELOW)),
+    ("A, posts 9930 up to 9990 by tens", *posted(A, *UP_BELOW)),
+    ("A, posts 10001 up to 10007", *posted(A, *range(10001, 10008))),
+    ("R, posts -990 up to -930 by tens", *posted(R, *range(-990, -929, 10))),
+    ("R, posts -930 down to -990 by tens", *posted(R, *range(-930, -991, -10))),
+    ("R, posts -1010 down to -1070 by tens", *posted(R, *R_DOWN_BELOW)),
+    ("R, posts -1070 up to -1010 by tens", *posted(R, *reversed(R_DOWN_BELOW))),
+    "READINGS-02 3: a run with a word on the mean stays 3, since that word is on no side of it",
+    ("A, posts 10000 up to 10060 by tens", *posted(A, *range(10000, 10061, 10))),
+    ("A, posts 10060 down to 10000 by tens", *posted(A, *range(10060, 9999, -10))),
+    ("A, posts 10000 down to 9940 by tens", *posted(A, *range(10000, 9939, -10))),
+    ("A, posts 9940 up to 10000 by tens", *posted(A, *range(9940, 10001, 10))),
+    "READINGS-02 3: a run with one word on the other side of the mean stays 3",
+    ("A, posts 9990 and 10010 up to 10060 by tens", *posted(A, *SIX_ABOVE)),
+    ("A, posts 10060 down to 10010 by tens and 9990", *posted(A, *reversed(SIX_ABOVE))),
+    ("A, posts 10010 and 9990 down to 9940 by tens", *posted(A, 10010, *DOWN_BELOW[:6])),
+    ("A, posts 9940 up to 9990 by tens and 10010", *posted(A, *UP_BELOW[1:], 10010)),
+    ("R, posts -1050 up to -990 by tens", *posted(R, *range(-1050, -989, 10))),
+    "document 02, Q-1: six words are neither; seven without a trend are judged by the side alone",
+    ("A, posts 10010 up to 10060 by tens", *posted(A, *UP_ABOVE[:6])),
+    ("A, posts 10010 10020 10030 10030 10040 10050 10060", *posted(A, *UP_ABOVE[:3], *UP_ABOVE[2:6])),
+    ("A, posts 9990 10020 10010 10030 10040 10050 10060", *posted(A, 9990, 10020, 10010, *UP_ABOVE[2:6])),
+    "READINGS-02 2: a reanalysis goes by the verdict that was answered; after 4 a correction is due first",
+    ("A, posts 10110 up to 10170 by tens", *posted(A, *UP_FAR)),
+    ("A after 10110 up to 10170: 10159", *reanalysed(AFTER_UP_FAR, 10159)),
+    ("A after 10110 up to 10170, post of X 10000, A 10000", read(AFTER_UP_FAR), "post 2 10000 10000 0"),
+    ("A after 10110 up to 10170, renewal", read(AFTER_UP_FAR), "renew"),
+    ("A after 10110 up to 10170, correction", read(AFTER_UP_FAR), "correct"),
+    *[("A after that: %d (that: 10110 up to 10170, correction)" % word, *reanalysed(UP_FAR_CORRECTED, word))
+      for word in (10160, 10159, 10100, 10099, 10001, 10000, 9999, 9900, 9700, 9699, 10301)],
+    "READINGS-02 2: the same call by call; after the reanalysis that passes, the run still counts",
+    ("A, a trend on one side and its reanalyses", *posted(A, *UP_FAR), *[call("reanalyse", 2, 10159), "correct"] * 2,
+     *[call("reanalyse", 2, 10099)] * 2, *posts(2, [10170]), "show", "lines"),
+    "document 02, Q-1: the posts after 4 was closed",
+    ("A after 10010 up to 10070, correction", read(AFTER_UP_ABOVE), "correct"),
+    ("A after that: 10070 (that: 10010 up to 10070, correction)", call("reanalyse", 2, 10070)),
+    ("A after that, posts 10080 (that: 10010 up to 10070, correction, reanalysis 10070)", *posts(2, [10080])),
+    ("A after that, correction (that: 10010 up to 10080)", "correct"),
+    ("A after that: 10000 (that: 10010 up to 10080, correction)", call("reanalyse", 2, 10000)),
+    ("A after that, posts 10090 (that: 10010 up to 10070 and 10000)", *posts(2, [10090])),
+    *[("A after 10010 up to 10070, closed, posts %d" % word,
+       read(AFTER_UP_ABOVE._replace(status=0, verdict=0)), *posts(2, [word])) for word in (10060, 10000, 9990)],
+    ("A after 9930 up to 9990, closed, posts 10010", read(Chart(*A, tuple(UP_BELOW), 0, 0)), *posts(2, [10010])),
+    "document 02, Q-1: the post after 3 was closed",
+    ("A after 9990 and 10010 up to 10060: 10060", *reanalysed(AFTER_SIX_ABOVE, 10060)),
+    ("A after that, posts 10070 (that: 9990 and 10010 up to 10060, reanalysis 10060)", *posts(2, [10070])),
+    ("K after 1010 up to 1070, closed, posts 1080", read(Chart(*K, tuple(K_UP_ABOVE), 0, 0)), *posts(1, [1080])),
+    "READINGS-02 4: stored open under 3 where 4 applies is refused with 14, with either status",
+    *opened("A, series 10010 up to 10070 by tens", A, UP_ABOVE, ((0, 0), *THREE_AND_FOUR)),
+    *opened("A, series 9990 down to 9930 by tens", A, DOWN_BELOW, THREE_AND_FOUR),
+    *opened("R, series -1010 down to -1070 by tens", R, R_DOWN_BELOW, THREE_AND_FOUR),
+    "READINGS-02 3, 4: a run that crosses the mean, or has a word on it, is stored open under 3 and not under 4",
+    *opened("A, series 9950 up to 10010 by tens", A, UP, THREE_AND_FOUR),
+    *opened("A, series 10050 down to 9990 by tens", A, DOWN, THREE_AND_FOUR),
+    *opened("A, series 10000 up to 10060 by tens", A, range(10000, 10061, 10), THREE_AND_FOUR),
+    "READINGS-02 1, 4: for kind 1 a trend on one side is stored open under 3 and not under 4",
+    *opened("K, series 1010 up to 1070 by tens", K, K_UP_ABOVE, THREE_AND_FOUR),
+    *opened("K, series 990 down to 930 by tens", K, K_DOWN_BELOW, THREE_AND_FOUR),
+    "READINGS-02 1, 4: where 2 applies too, only 2 is stored open",
+    *opened("A, series 10110 up to 10150 by tens and 10210 10250", A, (*UP_FAR[:5], 10210, 10250),
+            ((1, 2), (2, 2), *THREE_AND_FOUR)),
+)
+
 SECTIONS = (
     ("Before a chart is built or read", BEFORE),
     ("Words", WORDS),
@@ -496,6 +602,7 @@ SECTIONS = (
     ("Stored forms", STORED),
     ("Lines", LINES),
     ("Lists, call by call", LISTS),
+    ("One side before trend", ONE_SIDE),
 )
 
 
@@ -527,7 +634,7 @@ def figures(rec):
     """Adds all sections. The record must still have the chart of zeros."""
     assert rec.chart == model.ZEROS
     rec.raw(b"")
-    say(rec, "== The figures of document 01 and the cases of its readings")
+    say(rec, "== The figures of document 01 and the cases of its readings, as document 02 changes them")
     for letter, (kind, words) in LETTERS.items():
         say(rec, "base %s: kind %d, %s" % (letter, kind, told(words)))
     for title, entries in SECTIONS:

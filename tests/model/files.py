@@ -21,7 +21,8 @@ NO_COMMAND = b"missing command; control_chart help lists the commands"
 NO_FILE = b"there is no such file; build makes it"
 NO_FORM = (b"it holds no stored chart (refused 13); check the name, or take the last good copy; "
            b"to build anew, move it away first")
-NOT_SOUND = b"the chart in it is not sound (refused 14); take the last good copy; to build anew, move it away first"
+NOT_SOUND = (b"the chart in it is not sound (refused 14); if an older version left it open, close it with that version, "
+             b"else take the last good copy; to build anew, move it away first")
 
 
 def may_change(line):
@@ -62,6 +63,7 @@ N = (-1100,) * 7 + (-900,) * 7 + (-1000,)
 TEN = (0,) * 10 + (1, 12, 144, 1728, 20000)
 HIGH = (1000,) * 14 + (2000,)
 BASES = ((1, K), (2, A), (3, N))
+ABOVE = tuple(range(10010, 10071, 10))
 
 FRESH = Chart(2, A, (), 0, 0)
 OUT = Chart(2, A, (10301,), 1, 1)
@@ -77,7 +79,8 @@ UNSOUND = (
     Chart(2, A, (10301,), 0, 0), Chart(2, A, (10301, 10000), 0, 0),                     # a series word beyond a limit
     Chart(2, A, (), 1, 1), Chart(1, K, (1050,) * 7, 2, 4),                              # no such open verdict
     Chart(2, A[:14] + (20001,), (), 0, 0), Chart(1, K, (-1,), 0, 0),                    # a word out of range
-    Chart(2, (1000,) * 14 + (2000,), (), 0, 0))                                         # a base word beyond a limit
+    Chart(2, (1000,) * 14 + (2000,), (), 0, 0),                                         # a base word beyond a limit
+    Chart(2, A, ABOVE, 1, 3), Chart(2, A, ABOVE, 2, 3))                                 # 4 applies (document 02, Q-1)
 
 
 def text(command, *fields):
@@ -161,9 +164,10 @@ def unsound():
 
 
 def opened(kind, base):
-    """For each verdict 1 to 4 that the kind has: the chart before the last post, and its word."""
+    """For each verdict 1 to 4 that the kind has, and a trend on one side: the chart before the last post, its word."""
     mean = base[-1]
-    for words in ((mean + 301,), (mean + 250, mean + 210), range(mean - 50, mean + 11, 10), (mean - 150,) * 7):
+    for words in ((mean + 301,), (mean + 250, mean + 210), range(mean - 50, mean + 11, 10), (mean - 150,) * 7,
+                  range(mean + 10, mean + 71, 10)):
         before = Chart(kind, base, tuple(words[:-1]), 0, 0)
         if model.judge(kind, base, tuple(words)) != 0:
             yield before, words[-1]

@@ -213,11 +213,17 @@ def posts_and_reanalyses(rec):
     rec.reanalyse(10010)
     rec.post(10020)
     rec.do("show")
-    try_words(2, A, range(10010, 10071, 10), [10059, 10060, 10061])
+    # document 02, Q-1: a trend on one side is 4, so that a reanalysis at once is refused with 10.
+    try_words(2, A, range(10010, 10071, 10), [10060])
+    try_words(2, A, range(10010, 10071, 10), [10059, 10060, 10061], corrected=True)
     try_words(2, A, [10150] * 7, [9600, 9700, 10100, 10099], corrected=True)
     try_words(2, A, [9850] * 7, [9699, 9700, 9900, 9901, 10000, 10300, 10301], corrected=True)
     try_words(2, A, range(10110, 10171, 10), [10160, 10159])
-    try_words(2, A, range(9890, 9829, -10), [9840, 9841, 9839, 9901, 9900])
+    try_words(2, A, range(10110, 10171, 10), [10160, 10159, 10100, 10099], corrected=True)
+    try_words(2, A, range(9890, 9829, -10), [9840, 9841, 9839, 9901, 9900], corrected=True)
+    # Across the mean it stays 3. These words are at least S from the mean, and pass by turning back alone.
+    try_words(2, A, [9990, *range(10110, 10161, 10)], [10150, 10149, 10151])
+    try_words(2, A, [10010, *range(9890, 9839, -10)], [9850, 9851, 9849])
     try_words(1, K, range(1010, 949, -10), [800, 961, 960, 959, 901, 900, 1099, 1100, 1300, 1301])
     try_words(1, Z, range(100, 701, 100), [1000, 600, 599, 0, 1001])
     try_words(1, Z, range(700, 99, -100), [1000, 200, 201, 1001, 0])
@@ -259,11 +265,64 @@ def posts_and_reanalyses(rec):
                 rec.read_chart(Chart(kind, base, (mean + way,) * length, 0, 0))
                 rec.post(mean + way)
                 rec.do("show")
-    # A run that ends beyond a limit: 1 and 2 come before 3 and 4.
+    # A run that ends beyond a limit: 1 and 2 come before 4 and 3.
     try_words(2, A, [10001, 10002, 10003, 10004, 10005, 10006, 10301])
     try_words(2, A, [10001, 10002, 10003, 10004, 10005, 10250, 10260])
     try_words(2, A, [10002, 10001, 10003, 10004, 10005, 10250, 10260], [10200, 10201])
     try_words(2, A, [10002, 10001, 10003, 10004, 10005, 10250, 10301])
+
+
+def away(base, way, distances):
+    """Words at these distances from the last word of the base, which is at the mean; way -1 turns them over."""
+    return [base[-1] + way * distance for distance in distances]
+
+
+def one_side_before_trend(rec):
+    """document 02, Q-1: trends above, at, across and below the mean, and the reanalyses and posts after them."""
+    comment(rec, "one side before trend")
+    # The last two bases have means that are no whole numbers: 10000 and a fifteenth, -1000 less a fifteenth. Their last
+    # words are next to these.
+    for kind, base in BASES + ((2, A[:14] + (10001,)), (3, N[:14] + (-1001,))):
+        for way in (1, -1):
+            for first in range(2, -10, -1):
+                words = away(base, way, range(first, first + 7))
+                rec.read_chart(Chart(kind, base, tuple(words[:6]), 0, 0))
+                rec.post(words[6])
+    ends = (1, 0, -1, 99, 100, -99, -100, -300, -301, 300, 301)
+    # The seven, then reanalyses. Across the mean the verdict is 3. On one side it is 4, and for kind 1 it is 3.
+    reanalysed = (((-10, 110, 120, 130, 140, 150, 160), (150, 149, 151)),
+                  ((-30, -20, -10, 0, 10, 20, 30), (20, 19, 21)),
+                  ((110, 120, 130, 140, 150, 160, 170), (160, 159, 161)),
+                  ((170, 160, 150, 140, 130, 120, 110), (120, 121, 119)))
+    # The seven of a closed verdict, and the word after them.
+    closed = (((10, 20, 30, 40, 50, 60, 70), (80, 60, 1, 0, -1)),
+              ((70, 60, 50, 40, 30, 20, 10), (20, 1, 0, -1)),
+              ((-10, 10, 20, 30, 40, 50, 60), (70, 50, 0, -1)))
+    # Beyond a limit: 1, and then 2, come before 4 and 3.
+    beyond = ((110, 120, 130, 140, 150, 160, 250), (110, 120, 130, 140, 150, 210, 250),
+              (110, 120, 130, 140, 150, 160, 301), (110, 120, 130, 140, 150, 210, 301))
+    for kind, base in BASES:
+        for way in (1, -1):
+            for seven, again in reanalysed:
+                words = away(base, way, seven)
+                rec.read_chart(Chart(kind, base, tuple(words[:6]), 0, 0))
+                rec.post(words[6])
+                if rec.chart.status == 2:
+                    rec.reanalyse(words[5])
+                    rec.do("correct")
+                stored = rec.store()
+                for word in away(base, way, again + ends):
+                    rec.reanalyse(word)
+                    restore(rec, stored)
+            for seven, following in closed:
+                for word in away(base, way, following):
+                    rec.read_chart(Chart(kind, base, tuple(away(base, way, seven)), 0, 0))
+                    rec.post(word)
+            for seven in beyond:
+                words = away(base, way, seven)
+                rec.read_chart(Chart(kind, base, tuple(words[:6]), 0, 0))
+                rec.post(words[6])
+                rec.do("show")
 
 
 def open_states(rec, rng):
@@ -450,8 +509,9 @@ def full_series(rec, rng):
             # Fill up so that the last word of the plan is word 366.
             short = 366 - len(found) - len(series)
             chart = chart._replace(series=chart.series + tuple(centre + (12, -12)[step % 2] for step in range(short)))
-            found = choices.plan(rng, chart, verdict)
-            if found is None or len(chart.series) + len(found) != 366:
+            plans = [choices.plan(rng, chart, verdict) for _ in range(8)]
+            found = next((words for words in plans if words and len(chart.series) + len(words) == 366), None)
+            if found is None:
                 continue
             rec.read_chart(chart)
             for word in found:
@@ -642,7 +702,12 @@ def soundness(rec, rng):
     samples = [(1, K, (1301,)), (1, K, (1250, 1210)), (1, K, tuple(range(1010, 949, -10))), (1, K, (1000,)),
                (2, A, (10301,)), (2, A, (10250, 10210)), (2, A, tuple(range(9950, 10011, 10))), (2, A, (10150,) * 7),
                (2, A, ()), (2, A, (10000,)), (3, N, (-1301,)), (3, N, (-1250, -1210)), (3, N, (-1150,) * 7),
-               (3, N, tuple(range(-1050, -989, 10))), (3, N, (-900, -1100) * 5), (1, K, (0,) * 7)]
+               (3, N, tuple(range(-1050, -989, 10))), (3, N, (-900, -1100) * 5), (1, K, (0,) * 7),
+               # document 02, Q-1: trends on either side of the mean, and trends with their last or first word on it.
+               (2, A, tuple(range(10010, 10071, 10))), (2, A, tuple(range(9990, 9929, -10))),
+               (3, N, tuple(range(-1070, -1009, 10))), (3, N, tuple(range(-930, -991, -10))),
+               (1, K, tuple(range(1010, 1071, 10))), (1, K, tuple(range(930, 991, 10))),
+               (2, A, tuple(range(9940, 10001, 10))), (3, N, tuple(range(-1000, -1061, -10)))]
     for kind, base, series in samples:
         right = model.judge(kind, base, series) if series else 0
         for status in (0, 1, 2, 3):
@@ -708,6 +773,7 @@ def soundness(rec, rng):
                 for word in (far, far + way):
                     rec.read_chart(Chart(kind, tuple(plain[:5] + [word] + plain[5:]), (), 0, 0))
     # Random forms, some of them changed in one number.
+    rng = apart(rng, 7698)
     for _ in range(120):
         kind = rng.choice(choices.KINDS)
         base = model.reject(kind, tuple(plausible_base(rng, kind)))[0]
@@ -950,6 +1016,19 @@ def last_line(rec):
     rec.raw(b"word 1 1 2 0", b"\r")
 
 
+def apart(rng, drawn):
+    """A generator of its own for vectors that depend on verdicts, from where the given one stands.
+
+    The given one passes over as many numbers as these vectors drew at first. So the vectors after them stay as they
+    are where a rule for verdicts changes.
+    """
+    own = random.Random()
+    own.setstate(rng.getstate())
+    for _ in range(drawn):
+        rng.getrandbits(32)
+    return own
+
+
 def make():
     """The record of all commands."""
     rng = random.Random(20240105)
@@ -959,12 +1038,13 @@ def make():
     words(rec, rng)
     builds(rec, rng)
     posts_and_reanalyses(rec)
+    one_side_before_trend(rec)
     refusals(rec, rng)
-    open_states(rec, rng)
+    open_states(rec, apart(rng, 10289))
     renewals(rec, rng)
     stored_forms(rec, rng)
     line_charts(rec, rng)
-    random_runs(rec, rng, 14)
+    random_runs(rec, apart(rng, 7075), 14)
     full_series(rec, rng)
     language(rec)
     marks(rec)

@@ -1,6 +1,6 @@
-"""A model of document 01, the paper on control charts. Whole numbers only.
+"""A model of document 01, the paper on control charts, with request Q-1 of document 02. Whole numbers only.
 
-Each function names the heading of document 01 that it follows. A refused call raises
+Each function names the heading of document 01 that it follows, or the request of document 02. A refused call raises
 Refused with the number from the table; the chart that was handed in is then unchanged.
 """
 
@@ -170,12 +170,13 @@ def judge(kind, base, series):
             return 2
     if len(series) >= 7:
         seven = series[-7:]
-        if run(seven) != 0:
-            return 3
+        # document 02, Q-1: the order is 1, 2, 4, 3. Where one side and a trend both apply, 4 is answered and 3 is not.
         if kind != 1:
             sides = {side(of_base, word) for word in seven}
             if sides == {1} or sides == {-1}:
                 return 4
+        if run(seven) != 0:
+            return 3
     return 0
 
 

@@ -1,4 +1,4 @@
-"""Figures of document 01, of its readings and of include/control_chart.h, run on the calls beyond the commands.
+"""Figures of documents 01 and 02, of their readings and of include/control_chart.h, on the calls beyond the commands.
 
 python3 test_interface.py
 """
@@ -218,6 +218,43 @@ def test_lists():
         same(run_list(start, given, numbers, (7,) * room), (wanted, (7,) * room, model.ZEROS))
 
 
+def test_one_side_before_trend():
+    """Document 02, Q-1: on chart values, in lists and on lent bytes; readings 2 and 4 of document 02."""
+    above = tuple(range(10010, 10071, 10))
+    across = tuple(range(9950, 10011, 10))
+    for series, status, verdict, wanted in (
+            (above, 1, 3, 14), (above, 2, 3, 14), (above, 1, 4, 0), (above, 2, 4, 0), (above, 0, 0, 0),
+            (across, 1, 3, 0), (across, 2, 3, 0), (across, 1, 4, 14), (across, 2, 4, 14)):
+        chart = Chart(2, A, series, status, verdict)
+        same(refusal(chart_of, value_of(chart)), wanted)
+        same(refusal(write_into, value_of(chart), bytearray(62)), wanted)
+        same(refusal(LentChart(model.stored_form(chart), 62).check), wanted)
+        same(run_list(model.read, (model.stored_form(chart),), (), ())[0], "start refused 14" if wanted else "done")
+    # Seven posts, a reanalysis that is refused, a correction, a reanalysis that passes, and a post.
+    numbers = [number for word in above for number in (1, 2, word, 10000, 0)]
+    numbers += [2, 2, 10059, 10000, 0, 3, 0, 0, 0, 0, 2, 2, 10070, 10000, 0, 1, 2, 10080, 10000, 0]
+    answers = [number for word in above[:6] for number in (1, word, 0)]
+    answers += [1, 10070, 4, 0, 10, 0, 3, 0, 0, 2, 10070, 1, 1, 10080, 4]
+    same(run_list(built, (2, A), numbers, (7,) * 33),
+         ("done", tuple(answers), Chart(2, A, above + (10080,), 2, 4)))
+    # The lines of the calls: the run of the course and what follows it, and the forms that are not sound.
+    made = make_calls.files()[make_calls.PATH].decode("ascii")
+    base = "7*9900 7*10100 10000"
+    for lines in (
+            "10050 10060\npost 2 10070 10000 0 = 0 10070 4\nreanalyse 2 10059 10000 0 = 10\n"
+            "post 2 10000 10000 0 = 8\nrenew = 8\ncorrect = 0\nreanalyse 2 10100 10000 0 = 0 10100 0\n"
+            "reanalyse 2 10099 10000 0 = 10\ncorrect = 0\nreanalyse 2 10099 10000 0 = 0 10099 1\n",
+            "post 2 10170 10000 0 = 0 10170 4\ncorrect = 0\nreanalyse 2 10159 10000 0 = 0 10159 0\ncorrect = 0\n",
+            "chart 2 1 3 / %s / %s\nall = 14\n" % (base, " ".join(map(str, above))),
+            "chart 2 2 3 / %s / %s\nall = 14\n" % (base, " ".join(map(str, above))),
+            "chart 2 1 4 / %s / %s\ncheck = 0\n" % (base, " ".join(map(str, above))),
+            "chart 2 2 4 / %s / %s\ncheck = 0\n" % (base, " ".join(map(str, above))),
+            "chart 2 1 3 / %s / %s\ncheck = 0\n" % (base, " ".join(map(str, across))),
+            "10130 10140 10150\npost 2 10160 10000 0 = 0 10160 3\nreanalyse 2 10150 10000 0 = 0 10150 0\n"
+            "correct = 0\nreanalyse 2 10149 10000 0 = 0 10149 1\n"):
+        same((lines, made.count(lines)), (lines, 1))
+
+
 def lent_chart(form, room=None, behind=b"\x77" * 6):
     """Lent bytes with a form at their front and some bytes after it."""
     lent = LentChart(form + behind, len(form))
@@ -338,13 +375,13 @@ def test_texts():
                 same((number, room, refusal(function, number, room)), (number, room, 15))
         for number, room in ((-1, 64), (2 ** 32, 64), (2 ** 32 + 8, 64), (8, -1), (8, 2 ** 64)):
             same(is_no_input(function, number, room), True)
-    same([interface.version(room) for room in (6, 7, 64)], ["1.0.0"] * 3)
+    same([interface.version(room) for room in (6, 7, 64)], ["1.1.0"] * 3)
     same([refusal(interface.version, room) for room in (0, 1, 4, 5, 6)], [15] * 4 + [0])
     same([is_no_input(interface.version, room) for room in (-1, 2 ** 64)], [True] * 2)
     # The header has the same version, and the rooms that are enough for everything.
     with open(os.path.join(expected.ROOT, "include", "control_chart.h"), encoding="ascii") as file:
         header = file.read()
-    same(re.findall(r'(?m)^#define CONTROL_CHART_VERSION "(.*)"$', header), ["1.0.0"])
+    same(re.findall(r'(?m)^#define CONTROL_CHART_VERSION "(.*)"$', header), ["1.1.0"])
     same((interface.TEXT_MOST, interface.FORM_MOST, interface.LINES_MOST), (64, 814, 5))
     same(max(len(text) for text in ANSWERS + VERDICTS + [OTHER_NUMBER, OTHER_VERDICT]) < 64, True)
 
@@ -358,9 +395,9 @@ def test_made_texts():
             ("verdict_text 4 39", "verdict_text 4 39 = 0 seven in a row on one side of the mean"),
             ("verdict_text 4 38", "verdict_text 4 38 = 15"),
             ("verdict_text 65537 64", "verdict_text 65537 64 = 0 no such verdict"),
-            ("version 6", "version 6 = 0 1.0.0"), ("version 5", "version 5 = 15"),
+            ("version 6", "version 6 = 0 1.1.0"), ("version 5", "version 5 = 15"),
             # A text changes nothing in the lent chart.
-            ("chart 1 0 0 / 10*0 /\nversion 64\ncheck", "chart 1 0 0 / 10*0 /\nversion 64 = 0 1.0.0\ncheck = 0")):
+            ("chart 1 0 0 / 10*0 /\nversion 64\ncheck", "chart 1 0 0 / 10*0 /\nversion 64 = 0 1.1.0\ncheck = 0")):
         same(make_calls.made(asked), wanted)
     for asked in ("refusal_text 4294967296 64", "verdict_text -1 64", "version -1", "version 6 / 6", "texts 1 64"):
         same(is_no_input(make_calls.made, asked), True)
@@ -382,7 +419,7 @@ def test_made_texts():
             answer = "0 " + text if room > len(text) else "15"
             same(line, "%s %d %d = %s" % (name, number, room, answer))
     same([line for line in made if line.startswith("version")],
-         ["version 64 = 0 1.0.0", "version 6 = 0 1.0.0", "version 5 = 15", "version 1 = 15", "version 0 = 15"])
+         ["version 64 = 0 1.1.0", "version 6 = 0 1.1.0", "version 5 = 15", "version 1 = 15", "version 0 = 15"])
     # They have a section of their own, after all other calls, and the head has a line for each of them.
     start = made.index("# ---- Texts refuse 15")
     names = {line.split()[0] for line in made[start:] if line and not line.startswith("#")}
@@ -457,8 +494,8 @@ def test_made_cases():
 
 def main():
     for test in (test_charts_handed_in, test_calls_on_values, test_refused_starts, test_writing, test_against_lines,
-                 test_lists, test_order_for_c, test_calls_for_c, test_texts, test_made_texts, test_made_calls,
-                 test_made_cases):
+                 test_lists, test_one_side_before_trend, test_order_for_c, test_calls_for_c, test_texts,
+                 test_made_texts, test_made_calls, test_made_cases):
         test()
     print("%d passed, 0 failed" % PASSED)
 

@@ -1,9 +1,9 @@
-"""The figures of document 01 and of its readings, on the model and in the files that are made from it.
+"""The figures of documents 01 and 02 and of their readings, on the model and in the files that are made from it.
 
 python3 test_model.py
 
-The numbers here are written by hand from document 01, its readings and the descriptions of the commands and of charts
-in files, so that a wrong model fails here.
+The numbers here are written by hand from the two documents, their readings and the descriptions of the commands and of
+charts in files, so that a wrong model fails here.
 """
 
 import io
@@ -26,9 +26,11 @@ A = (9900,) * 7 + (10100,) * 7 + (10000,)
 B = (1000,) * 14
 C = (10000,) * 7 + (10001,) * 8
 K = (900,) * 7 + (1100,) * 7 + (1000,)
+R = (-1100,) * 7 + (-900,) * 7 + (-1000,)
 Z = (1000,) * 15
 
 # Document 01, figures from the course: all cases with their commands and answers. {A}, {B} and {C} stand for words.
+# Document 02, Q-1: the seven posts from 10010 to 10070 end in 4.
 FIGURES = """\
 # duplicate X1 1, X2 2
 word 1 1 2 0 = word 6667
@@ -86,8 +88,8 @@ post 2 10030 10000 0 = word 10030 verdict 0
 post 2 10040 10000 0 = word 10040 verdict 0
 post 2 10050 10000 0 = word 10050 verdict 0
 post 2 10060 10000 0 = word 10060 verdict 0
-post 2 10070 10000 0 = word 10070 verdict 3
-show = chart kind 2 status 1 verdict 3 base 15 {A} series 7 10010 10020 10030 10040 10050 10060 10070
+post 2 10070 10000 0 = word 10070 verdict 4
+show = chart kind 2 status 2 verdict 4 base 15 {A} series 7 10010 10020 10030 10040 10050 10060 10070
 # C, lines
 build 2 {C} = built rounds 1 removed 0
 lines = lines 10000.53125000 9999.50390625 10001.56250000 9998.98437500 10002.08203125
@@ -115,6 +117,10 @@ UP = ("08000100020001000300"
 A_FORM = bytes.fromhex("08000100020000000000" "20000200" + "ac26" * 7 + "7427" * 7 + "1027" "02000300")
 A_OUT = bytes.fromhex("08000100020001000100" "20000200" + "ac26" * 7 + "7427" * 7 + "1027" "04000300" "3d28")
 
+# What follows the head in the stored form of A after 10010 up to 10070: 1a 27 is 10010, 56 27 is 10070.
+ABOVE_AFTER_HEAD = bytes.fromhex("20000200" + "ac26" * 7 + "7427" * 7 + "1027"
+                                 "10000300" "1a27" "2427" "2e27" "3827" "4227" "4c27" "5627")
+
 # The command language: each kind of answer with its exit status.
 STATUSES = {
     0: ("word 6667", "word -313", "built rounds 1 removed 0", "word 10250 verdict 0", "word -1 verdict 0",
@@ -133,8 +139,8 @@ NO_COMMAND = b"missing command; control_chart help lists the commands"
 NO_FILE = b"there is no such file; build makes it"
 REFUSED_13 = (b"it holds no stored chart (refused 13); check the name, or take the last good copy; to build anew, "
               b"move it away first")
-REFUSED_14 = (b"the chart in it is not sound (refused 14); take the last good copy; to build anew, move it away "
-              b"first")
+REFUSED_14 = (b"the chart in it is not sound (refused 14); if an older version left it open, close it with that version, "
+              b"else take the last good copy; to build anew, move it away first")
 
 # The cases of files: the answers that must be met, by command. Numbers are those of refusals.
 MET_IN_FILES = {
@@ -206,8 +212,13 @@ READINGS = {
          "A after that: 9700 (that: 10150 seven times, correction)": "word 9700 passed",
          "A after that: 10100 (that: 10150 seven times, correction)": "word 10100 failed",
          "A after that: 10099 (that: 10150 seven times, correction)": "word 10099 passed"},
-    16: {"A after 10110 up to 10170: 10160": "word 10160 failed",
-         "A after 10110 up to 10170: 10159": "word 10159 passed"},
+    # The run of reading 16 is 4 now, by document 02, Q-1. These cross the mean, and are 3.
+    16: {"A, posts 9990 and 10110 up to 10160 by tens": "word 10160 verdict 3",
+         "A after 9990 and 10110 up to 10160: 10150": "word 10150 failed",
+         "A after 9990 and 10110 up to 10160: 10149": "word 10149 passed",
+         "A, posts 10010 and 9890 down to 9840 by tens": "word 9840 verdict 3",
+         "A after 10010 and 9890 down to 9840: 9850": "word 9850 failed",
+         "A after 10010 and 9890 down to 9840: 9851": "word 9851 passed"},
     17: {"A after 10250 10210: 9790": "word 9790 failed", "A after 10250 10210: 9800": "word 9800 passed"},
     18: {"A after 10250 10301: 10250": "word 10250 passed",
          "A with the series 10250 10250, read (the form just written)": "read"},
@@ -232,6 +243,86 @@ READINGS = {
     28: {"W, lines": "lines 0.00000000 -40640.03906250 40640.03906250 -60960.05859375 60960.05859375"},
     32: {"A, posts 10301": "word 10301 verdict 1", "1000 fourteen times and 2000, posts 1001": "word 1001 verdict 1"},
 }
+
+# The readings of document 02, in the same way.
+READINGS_02 = {
+    1: {"A, posts 10110 up to 10150 by tens and 10210 10250": "word 10250 verdict 2",
+        "A, posts 9890 down to 9850 by tens and 9790 9750": "word 9750 verdict 2",
+        "A, posts 10110 up to 10160 by tens and 10301": "word 10301 verdict 1",
+        "A, posts 9890 down to 9840 by tens and 9699": "word 9699 verdict 1",
+        "A, posts 10110 up to 10150 by tens and 10210 10301": "word 10301 verdict 1",
+        "A, posts 10010 up to 10070 by tens": "word 10070 verdict 4",
+        "A, posts 10070 down to 10010 by tens": "word 10010 verdict 4",
+        "A, posts 9990 down to 9930 by tens": "word 9930 verdict 4",
+        "A, posts 9930 up to 9990 by tens": "word 9990 verdict 4",
+        "A, posts 10001 up to 10007": "word 10007 verdict 4",
+        "R, posts -990 up to -930 by tens": "word -930 verdict 4",
+        "R, posts -930 down to -990 by tens": "word -990 verdict 4",
+        "R, posts -1010 down to -1070 by tens": "word -1070 verdict 4",
+        "R, posts -1070 up to -1010 by tens": "word -1010 verdict 4",
+        "K, posts 1010 up to 1070 by tens": "word 1070 verdict 3",
+        "K, posts 1070 down to 1010 by tens": "word 1010 verdict 3",
+        "K, posts 990 down to 930 by tens": "word 930 verdict 3",
+        "K, posts 930 up to 990 by tens": "word 990 verdict 3",
+        "A, posts 10010 up to 10060 by tens": "word 10060 verdict 0",
+        "A, posts 10010 10020 10030 10030 10040 10050 10060": "word 10060 verdict 4",
+        "A, posts 9990 10020 10010 10030 10040 10050 10060": "word 10060 verdict 0"},
+    2: {"A, posts 10110 up to 10170 by tens": "word 10170 verdict 4", "A after 10110 up to 10170: 10159": "refused 10",
+        "A after 10110 up to 10170, post of X 10000, A 10000": "refused 8",
+        "A after 10110 up to 10170, renewal": "refused 8", "A after 10110 up to 10170, correction": "corrected",
+        "A after that: 10160 (that: 10110 up to 10170, correction)": "word 10160 failed",
+        "A after that: 10159 (that: 10110 up to 10170, correction)": "word 10159 failed",
+        "A after that: 10100 (that: 10110 up to 10170, correction)": "word 10100 failed",
+        "A after that: 10099 (that: 10110 up to 10170, correction)": "word 10099 passed",
+        "A after that: 10001 (that: 10110 up to 10170, correction)": "word 10001 passed",
+        "A after that: 10000 (that: 10110 up to 10170, correction)": "word 10000 passed",
+        "A after that: 9999 (that: 10110 up to 10170, correction)": "word 9999 passed",
+        "A after that: 9900 (that: 10110 up to 10170, correction)": "word 9900 passed",
+        "A after that: 9700 (that: 10110 up to 10170, correction)": "word 9700 passed",
+        "A after that: 9699 (that: 10110 up to 10170, correction)": "word 9699 failed",
+        "A after that: 10301 (that: 10110 up to 10170, correction)": "word 10301 failed",
+        "A after that: 10070 (that: 10010 up to 10070, correction)": "word 10070 passed",
+        "A after that, posts 10080 (that: 10010 up to 10070, correction, reanalysis 10070)": "word 10080 verdict 4",
+        "A after that: 10000 (that: 10010 up to 10080, correction)": "word 10000 passed",
+        "A after that, posts 10090 (that: 10010 up to 10070 and 10000)": "word 10090 verdict 0",
+        "A after 10010 up to 10070, closed, posts 10060": "word 10060 verdict 4",
+        "A after 10010 up to 10070, closed, posts 10000": "word 10000 verdict 0",
+        "A after 10010 up to 10070, closed, posts 9990": "word 9990 verdict 0",
+        "A after 9930 up to 9990, closed, posts 10010": "word 10010 verdict 3",
+        "A after 9990 and 10010 up to 10060: 10060": "word 10060 passed",
+        "A after that, posts 10070 (that: 9990 and 10010 up to 10060, reanalysis 10060)": "word 10070 verdict 4",
+        "K after 1010 up to 1070, closed, posts 1080": "word 1080 verdict 3"},
+    3: {"A, posts 9950 up to 10010 by tens": "word 10010 verdict 3",
+        "A, posts 10050 down to 9990 by tens": "word 9990 verdict 3",
+        "A, posts 10000 up to 10060 by tens": "word 10060 verdict 3",
+        "A, posts 10060 down to 10000 by tens": "word 10000 verdict 3",
+        "A, posts 10000 down to 9940 by tens": "word 9940 verdict 3",
+        "A, posts 9940 up to 10000 by tens": "word 10000 verdict 3",
+        "A, posts 9990 and 10010 up to 10060 by tens": "word 10060 verdict 3",
+        "A, posts 10060 down to 10010 by tens and 9990": "word 9990 verdict 3",
+        "A, posts 10010 and 9990 down to 9940 by tens": "word 9940 verdict 3",
+        "A, posts 9940 up to 9990 by tens and 10010": "word 10010 verdict 3",
+        "R, posts -1050 up to -990 by tens": "word -990 verdict 3"},
+    4: {"A, series 10010 up to 10070 by tens, status 0, verdict 0": "read",
+        "A, series 10110 up to 10150 by tens and 10210 10250, status 1, verdict 2": "read",
+        "A, series 10110 up to 10150 by tens and 10210 10250, status 2, verdict 2": "read"},
+}
+
+# Reading 4 of document 02: series stored open under 3 and under 4, with either status, and the verdict that is read.
+STORED_OPEN = {"A, series 10010 up to 10070 by tens": 4, "A, series 9990 down to 9930 by tens": 4,
+               "R, series -1010 down to -1070 by tens": 4, "A, series 9950 up to 10010 by tens": 3,
+               "A, series 10050 down to 9990 by tens": 3, "A, series 10000 up to 10060 by tens": 3,
+               "K, series 1010 up to 1070 by tens": 3, "K, series 990 down to 930 by tens": 3,
+               "A, series 10110 up to 10150 by tens and 10210 10250": 2}
+
+# A trend on one side, call by call: the answers after the seventh post.
+ONE_SIDE_CALLS = ["word 10170 verdict 4", "refused 10", "corrected", "word 10159 failed", "corrected",
+                  "word 10099 passed", "refused 10", "word 10170 verdict 4"]
+
+# The made commands: outcomes that must occur beside the four verdicts, as the table of outcomes names them.
+TREND_ACROSS = "post kind {kind} verdict 3 on a trend, {way} across the mean"
+TREND_ON_ONE_SIDE = "post kind {kind} verdict {verdict} on a trend, {way} {side} the mean"
+REANALYSED_TREND = ("failed", "passed by both", "passed by being near alone", "passed by turning back alone")
 
 # A day with a chart in a file: the readings after post and reanalyse are found, made up, and 0. `# 1` is the status.
 DAY_IN_FILE = """\
@@ -366,7 +457,7 @@ def test_building():
 
 
 def test_verdicts():
-    """Figures from the course; readings 9, 14."""
+    """Figures from the course; readings 9, 14; document 02, Q-1."""
     same(posted(2, A, [10300])[1], [0])
     same(posted(2, A, [10301])[1], [1])
     same(posted(2, A, [9700])[1], [0])
@@ -375,7 +466,7 @@ def test_verdicts():
     same(posted(2, A, [10250, 9790])[1], [0, 0])
     same(posted(2, A, [10200, 10210])[1], [0, 0])
     same(posted(2, A, range(9950, 10011, 10))[1], [0] * 6 + [3])
-    same(posted(2, A, range(10010, 10071, 10))[1], [0] * 6 + [3])
+    same(posted(2, A, range(10010, 10071, 10))[1], [0] * 6 + [4])
     same(posted(2, A, [10150] * 7)[1], [0] * 6 + [4])
     same(posted(1, K, [790, 790])[1], [0, 0])
     same(posted(1, Z, range(100, 701, 100))[1], [0] * 6 + [3])
@@ -383,6 +474,40 @@ def test_verdicts():
     again = model.reanalyse(chart, 2, *reading(2, 10010))[0]
     same(again.status, 0)
     same(model.post(again, 2, *reading(2, 10020))[2], 3)
+
+
+def test_one_side_before_trend():
+    """Document 02, Q-1: the order 1, 2, 4, 3; readings 1 to 4 of document 02."""
+    for kind, base, words, wanted in (
+            (2, A, (10110, 10120, 10130, 10140, 10150, 10210, 10250), 2),
+            (2, A, (10110, 10120, 10130, 10140, 10150, 10160, 10301), 1),
+            (2, A, range(10070, 10009, -10), 4), (2, A, range(9990, 9929, -10), 4), (2, A, range(9930, 9991, 10), 4),
+            (3, R, range(-990, -929, 10), 4), (3, R, range(-1010, -1071, -10), 4), (3, R, range(-1070, -1009, 10), 4),
+            (1, K, range(1010, 1071, 10), 3), (1, K, range(990, 929, -10), 3), (1, K, range(930, 991, 10), 3),
+            (2, A, range(10000, 10061, 10), 3), (2, A, range(9940, 10001, 10), 3), (2, A, range(9950, 10011, 10), 3),
+            (2, A, (9990, *range(10010, 10061, 10)), 3), (2, A, (*range(9940, 9991, 10), 10010), 3),
+            (3, R, range(-1050, -989, 10), 3),
+            # The means are 10000 and a fifteenth, and -1000 less a fifteenth.
+            (2, A[:14] + (10001,), range(9994, 10001), 4), (2, A[:14] + (10001,), range(10000, 10007), 3),
+            (3, R[:14] + (-1001,), range(-1000, -993), 4), (3, R[:14] + (-1001,), range(-1001, -994), 3)):
+        chart, verdicts = posted(kind, base, words)
+        same((words, verdicts), (words, [0] * 6 + [wanted]))
+        # 4 asks for a correction first, the others for a reanalysis.
+        same((words, chart.status), (words, 2 if wanted == 4 else 1))
+        # The stored chart is sound with the verdict that was answered and with no other.
+        for status in (1, 2):
+            for verdict in (1, 2, 3, 4):
+                stored = model.stored_form(chart._replace(status=status, verdict=verdict))
+                same((words, refusal(model.read, stored)), (words, 0 if verdict == wanted else 14))
+    chart = posted(2, A, range(10110, 10171, 10))[0]
+    same(refusal(model.reanalyse, chart, 2, *reading(2, 10159)), 10)
+    same(refusal(model.post, chart, 2, *reading(2, 10000)), 8)
+    chart = model.correct(chart)
+    for word, wanted in ((10159, False), (10100, False), (10099, True), (10000, True), (9700, True), (9699, False)):
+        same((word, outcome(chart, word)), (word, wanted))
+    # 10070 passes, since it is near the mean. The next word is judged with the six before it.
+    chart = model.reanalyse(model.correct(posted(2, A, range(10010, 10071, 10))[0]), 2, *reading(2, 10070))[0]
+    same([model.post(chart, 2, *reading(2, word))[2] for word in (10080, 10060, 10000, 9990, 10301)], [4, 4, 0, 0, 1])
 
 
 def test_reanalysis():
@@ -395,9 +520,15 @@ def test_reanalysis():
     same(model.sound(chart), True)
     for word, wanted in ((9600, False), (9700, True), (10100, False), (10099, True)):
         same(outcome(chart, word), wanted)
-    chart = posted(2, A, range(10110, 10171, 10))[0]
-    same(outcome(chart, 10160), False)
-    same(outcome(chart, 10159), True)
+    # These two cross the mean, and are 3.
+    chart = posted(2, A, (9990, *range(10110, 10161, 10)))[0]
+    same(chart.verdict, 3)
+    for word, wanted in ((10150, False), (10149, True), (10100, True), (9700, True), (9699, False), (10301, False)):
+        same(outcome(chart, word), wanted)
+    chart = posted(2, A, (10010, *range(9890, 9839, -10)))[0]
+    same(chart.verdict, 3)
+    for word, wanted in ((9850, False), (9851, True), (9900, True), (10300, True), (10301, False), (9699, False)):
+        same(outcome(chart, word), wanted)
     chart = posted(2, A, [10250, 10210])[0]
     same(outcome(chart, 9790), False)
     same(outcome(chart, 9800), True)
@@ -620,6 +751,13 @@ def test_files():
             (A_FORM, b"correct", (None, b"refused 11", 2, False)),
             (A_FORM, b"x", (None, b"error: unknown command; control_chart help lists the commands", 3, False))):
         same(on_file(held, line), wanted)
+    # Document 02, Q-1: a file with a chart open under 3 where 4 applies is of no use; open under 4 it is.
+    for head, wanted in (("01000300", (None, REFUSED_14, 3, True)), ("02000300", (None, REFUSED_14, 3, True)),
+                         ("01000400", (None, b"refused 11", 2, False))):
+        held = bytes.fromhex("080001000200" + head) + ABOVE_AFTER_HEAD
+        same(on_file(held, b"correct"), wanted)
+    held = bytes.fromhex("08000100020002000400") + ABOVE_AFTER_HEAD
+    same(on_file(held, b"correct"), (held[:6] + b"\1" + held[7:], b"corrected", 0, False))
     passed = on_file(A_OUT, b"reanalyse 2 10300 10000 0")
     same((passed[0].hex(), passed[1:]), (A_FORM[:44].hex() + "040003003c28", (b"word 10300 passed", 0, False)))
     for line, wanted in ((build, True), (b" post", True), (b"reanalyse x", True), (b"correct", True), (b"renew", True),
@@ -667,9 +805,15 @@ def test_file_cases():
 
 
 @lru_cache(maxsize=None)
+def made_record():
+    """The record of the made commands."""
+    return make_vectors.make()
+
+
+@lru_cache(maxsize=None)
 def made_files():
     """The made files."""
-    return make_vectors.files()
+    return make_vectors.bytes_of(made_record())
 
 
 def block_of(files):
@@ -682,7 +826,8 @@ def block_of(files):
             texts.append((line[2:], []))
         elif line:
             texts[-1][1].append((line, next(answers)))
-    first = [text for text, _ in texts].index("== The figures of document 01 and the cases of its readings")
+    first = [text for text, _ in texts].index(
+        "== The figures of document 01 and the cases of its readings, as document 02 changes them")
     return texts[first:]
 
 
@@ -721,12 +866,46 @@ def test_block():
     labels = [text for text, steps in texts if steps]
     headings = [text for text, steps in texts if not steps]
     same([label for label in labels if labels.count(label) > 1], [])
-    same(len(labels), 310)
+    same(len(labels), 411)
     found = {int(number) for heading in headings
              for numbers in re.findall(r"READINGS (\d+(?:, \d+)*)", heading) for number in numbers.split(", ")}
     # 13, 23 and 29 to 31 are about definitions, chart values handed in, the type of the lines, and lists.
     same(sorted(found), [number for number in range(1, 33) if number not in (13, 23, 29, 30, 31)])
     same(sorted(READINGS), sorted(found))
+    found = {int(number) for heading in headings
+             for numbers in re.findall(r"READINGS-02 (\d+(?:, \d+)*)", heading) for number in numbers.split(", ")}
+    same((sorted(found), sorted(READINGS_02)), ([1, 2, 3, 4], [1, 2, 3, 4]))
+    same(any(heading.startswith("document 02, Q-1: ") for heading in headings), True)
+
+
+def test_outcomes():
+    """The made commands: every verdict and trend occurs for each kind, and every way in which a reanalysis ends."""
+    table = made_record().table
+    wanted = ["post as word 366, verdict %d" % verdict for verdict in range(5)]
+    for kind in (1, 2, 3):
+        verdicts = (1, 2, 3) if kind == 1 else (1, 2, 3, 4)
+        wanted += ["post kind %d verdict %d" % (kind, verdict) for verdict in (0, *verdicts)]
+        wanted += ["reanalyse kind %d verdict %d %s" % (kind, verdict, ended)
+                   for verdict in verdicts for ended in ("passed", "failed")]
+        for way in ("rising", "falling"):
+            wanted.append(TREND_ACROSS.format(kind=kind, way=way))
+            wanted += [TREND_ON_ONE_SIDE.format(kind=kind, verdict=verdicts[-1], way=way, side=side)
+                       for side in ("above", "below")]
+            wanted += ["reanalyse kind %d verdict 3, %s, %s" % (kind, way, ended) for ended in REANALYSED_TREND]
+            wanted += ["reanalyse kind %d verdict 4 on a trend, %s %s the mean, %s" % (kind, way, side, ended)
+                       for side in ("above", "below") for ended in ("passed", "failed") if kind != 1]
+        # Document 02, Q-1: 1 and 2 still come first where 4 and 3 apply too.
+        wanted += [TREND_ON_ONE_SIDE.format(kind=kind, verdict=verdict, way="rising", side="above")
+                   for verdict in (1, 2)]
+    wanted += ["read accepted status %d verdict %d" % (status, verdict)
+               for status in (1, 2) for verdict in (1, 2, 3, 4)]
+    same([name for name in wanted if name not in table], [])
+    # A trend on one side is never 3, save for kind 1, and one across the mean is never 4.
+    never = [TREND_ON_ONE_SIDE.format(kind=kind, verdict=3, way=way, side=side)
+             for kind in (2, 3) for way in ("rising", "falling") for side in ("above", "below")]
+    never += [TREND_ON_ONE_SIDE.format(kind=kind, verdict=4, way=way, side="across")
+              for kind in (1, 2, 3) for way in ("rising", "falling")]
+    same([name for name in never if name in table], [])
 
 
 def test_figures():
@@ -747,11 +926,27 @@ def test_examples():
     for number, answers in READINGS.items():
         for label, answer in answers.items():
             same((number, label, last_answer(block[label])), (number, label, answer))
+    for number, answers in READINGS_02.items():
+        for label, answer in answers.items():
+            same((number, label, last_answer(block[label])), (number, label, answer))
+    for front, right in STORED_OPEN.items():
+        for status in (1, 2):
+            for verdict in (3, 4):
+                label = "%s, status %d, verdict %d" % (front, status, verdict)
+                same((label, last_answer(block[label])), (label, "read" if verdict == right else "refused 14"))
+    calls = block["A, a trend on one side and its reanalyses"]
+    same([answer for command, answer in calls[7:] if command not in ("show", "lines")], ONE_SIDE_CALLS)
     # Reading 4: the status is still 1. Reading 18: the status is 0. Reading 19: the verdict stays.
     for label, status, verdict in (("A after 10250 10301, reanalysis of X 30000, A 10000", 1, 1),
                                    ("A after 10250 10301: 10250", 0, 0),
                                    ("A after that: 10302 (that: 10250 10301)", 2, 1),
-                                   ("A after 10150 seven times, correction", 1, 4)):
+                                   ("A after 10150 seven times, correction", 1, 4),
+                                   # Document 02, Q-1: 4 sets status 2, a correction 1, and a word that fails 2 again.
+                                   ("A, posts 10110 up to 10170 by tens", 2, 4),
+                                   ("A after 10110 up to 10170: 10159", 2, 4),
+                                   ("A after 10110 up to 10170, correction", 1, 4),
+                                   ("A after that: 10159 (that: 10110 up to 10170, correction)", 2, 4),
+                                   ("A after that: 10099 (that: 10110 up to 10170, correction)", 0, 0)):
         same(block[label][-1][1].split()[3:7], ["status", str(status), "verdict", str(verdict)])
 
 
@@ -863,10 +1058,10 @@ def test_expected():
 
 
 def main():
-    for test in (test_words, test_building, test_verdicts, test_reanalysis, test_order,
+    for test in (test_words, test_building, test_verdicts, test_one_side_before_trend, test_reanalysis, test_order,
                  test_stored_form, test_lines, test_commands, test_ends_and_fronts, test_statuses, test_files,
-                 test_file_cases, test_made, test_block, test_figures, test_examples, test_day, test_transcript,
-                 test_expected):
+                 test_file_cases, test_made, test_block, test_outcomes, test_figures, test_examples, test_day,
+                 test_transcript, test_expected):
         test()
     print("%d passed, 0 failed" % PASSED)
 

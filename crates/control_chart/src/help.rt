@@ -105,9 +105,11 @@ fn say_numbers() {
     say(b"3 spike      A is the spiked sample, B the unspiked one, C what was added\n\n");
     say_verdicts();
     say(
-        b"Verdict 4 is for kinds 2 and 3. After 1, 2 and 3 reanalyse; after 4, and after a failed reanalysis, correct and\n",
+        b"Verdict 4 is for kinds 2 and 3. If several verdicts apply, the answer is the first of 1, 2, 4, 3.\n",
     );
-    say(b"then reanalyse.\n");
+    say(
+        b"After 1, 2 and 3 reanalyse; after 4, and after a failed reanalysis, correct and then reanalyse.\n",
+    );
     say(
         b"Status: 0 free, 1 a reanalysis is due, 2 a correction is due; show gives it with the open verdict.\n\n",
     );

@@ -2,7 +2,8 @@
 -- (`record-back`). The same holds for the three records (`form-is`, `form-held`, `form-back`). A sound state that is written is read as the
 -- same state (`read-stored`). Accepted bytes are those that writing the state gives (`stored-read`). Two sound states never have the same
 -- bytes (`one-form`). Reading answers 13 exactly if the bytes are no form of a state with numbers of words that a chart can have
--- (`thirteen`, `no-form`). Lists of calls from reading are sound (`read-run`).
+-- (`thirteen`, `no-form`). It answers 14 for the form of a state that is open under 3 where 4 applies (`sided-trend-fourteen`). Lists of
+-- calls from reading are sound (`read-run`).
 use mathlib.Core.Path.{_≡_, refl, sym, ap, ap₂, _∙_}
 use mathlib.Core.Bool.{Bool, true, false, _&&_}
 use mathlib.Core.List.{List, [], _∷_, _++_, map, append-nil}
@@ -14,7 +15,9 @@ use lib.Dec.{leb, eqb}
 use borrow.Author.Tests.{leb-true, le-leb, eqb-true, eq-eqb}
 use Rattle.guide.specs.Choice.{require}
 use Rattle.guide.specs.Sizes.{baseLeast, baseMost, seriesMost}
-use Rattle.guide.specs.State.{State}
+use Rattle.guide.specs.State.{State, limitsFor}
+use Rattle.guide.specs.Building.{allInRange}
+use Rattle.guide.specs.Verdict.{sideTest}
 use Rattle.guide.specs.Soundness.{sound}
 use Rattle.guide.specs.Machine.{Call}
 use Rattle.guide.specs.Bytes.{bytesOf, numberIn, numbersIn, numberOf, wordOf}
@@ -22,7 +25,7 @@ use Rattle.guide.specs.StoredForm.{recordOf, headNumbers, storedForm}
 use Rattle.guide.specs.Reading.{lengthIn, recordKindIn, countIn, recordNumbers, afterRecord, isRecord, startsWith}
 use Rattle.guide.specs.Reading.{fromBase, fromSeries, headCount, isForm, heldIn, taken, refused, reading}
 use Rattle.guide.proofs.Booleans.{both, by-test}
-use Rattle.guide.proofs.Soundness.{sound-facts}
+use Rattle.guide.proofs.Soundness.{sound-facts, sided-trend-unsound}
 use Rattle.guide.proofs.Machine.{SoundRun, sound-run}
 use Rattle.guide.proofs.Bytes.{length-bytes, numbers-there, length-numbers, words-back}
 use Rattle.guide.proofs.Bytes.{AreBytes, bytes-from, bytes-back, numbers-back}
@@ -384,6 +387,14 @@ thirteen bytes are none =
     } in
     absurd (none (heldIn bytes) counts (form-back bytes are t)))
     (λ t. rw t)
+
+-- document 02, Q-1: "A chart stored open under verdict 3 where 4 applies is refused with 14."
+pub sided-trend-fourteen : (s : State) → WordCounts s → allInRange (s .kind) (s .base) ≡ true → allInRange (s .kind) (s .series) ≡ true
+    → s .openVerdict ≡ 3 → sideTest (limitsFor s) (s .series) ≡ true → reading (storedForm s) ≡ refused 14
+unfolding reading
+sided-trend-fourteen s counts base series three sided =
+    let held = form-held s (words-back (s .kind) (s .base) base) (words-back (s .kind) (s .series) series) in
+    rw (form-is s counts, held, sided-trend-unsound s three sided)
 
 -- every list of calls on a chart that reading gives is sound
 pub read-run : (bytes : List ℕ) (s : State) → reading bytes ≡ taken s → (calls : List Call) → SoundRun s calls

@@ -1,8 +1,8 @@
 -- Laws of soundness: its facts by name, in both directions (`sound-facts`, `sound-from`); status and open verdict of a sound state
--- (`status-facts`). A fresh chart of the words that rejection leaves is sound (`fresh-sound`), and so is the chart that building gives
--- (`built-sound`).
-use mathlib.Core.Path.{_≡_, refl}
-use mathlib.Core.Bool.{true}
+-- (`status-facts`). A state that is open under 3, though 4 applies, is not sound (`sided-trend-unsound`). A fresh chart of the words that
+-- rejection leaves is sound (`fresh-sound`), and so is the chart that building gives (`built-sound`).
+use mathlib.Core.Path.{_≡_, refl, sym, _∙_}
+use mathlib.Core.Bool.{true, false}
 use mathlib.Core.List.{List, []}
 use Prim.Native.Nat.{ℕ, zero, suc, _≤_}
 use native.Mathlib.Omega.{arith}
@@ -18,11 +18,12 @@ use Rattle.guide.specs.Rejection.{rejection}
 use Rattle.guide.specs.LastWords.{butLast}
 use Rattle.guide.specs.State.{State, fresh, limitsFor}
 use Rattle.guide.specs.Building.{built, isBuildCount, allInRange, buildRefusal, orRefused, building}
-use Rattle.guide.specs.Verdict.{verdict}
+use Rattle.guide.specs.Verdict.{sideTest, verdict}
 use Rattle.guide.specs.Soundness.{areCounts, wordsSound, heldWithin, limitsHold, openFits, statusFits, sound}
 use Rattle.guide.proofs.Booleans.{both, by-test}
 use Rattle.guide.proofs.Choice.{require-zero}
 use Rattle.guide.proofs.InOrder.{in-range-empty, in-range-some, none-empty}
+use Rattle.guide.proofs.Verdict.{trend-not-sided}
 use Rattle.guide.proofs.Rejection.{rejection-counts, rejection-keeps-order, rejection-leaves-none-beyond, rejection-leaves-ten}
 
 -- ---- a sound state, as facts
@@ -153,6 +154,15 @@ status-facts s h =
     by-test (eqb (s .status) 0)
     (λ t. let e = eqb-true (s .status) 0 t in free e (free-verdict s f e))
     (λ t. opened (not-free-facts s f (eqb-false (s .status) 0 t)))
+
+-- document 02, Q-1: a state that is open under 3 and whose run stays on one side is not sound, whatever its status is
+sided-trend-not-open : (s : State) → s .openVerdict ≡ 3 → FreeOrOpen s → sideTest (limitsFor s) (s .series) ≡ false
+sided-trend-not-open s three (free e none) = absurd (omega (arith, three, none))
+sided-trend-not-open s three (opened f) = trend-not-sided (limitsFor s) (s .series) (sym (f .verdict-is) ∙ three)
+
+pub sided-trend-unsound : (s : State) → s .openVerdict ≡ 3 → sideTest (limitsFor s) (s .series) ≡ true → sound s ≡ false
+sided-trend-unsound s three sided =
+    by-test (sound s) (λ h. h ∙ (sym sided ∙ sided-trend-not-open s three (status-facts s h))) (λ h. h)
 
 -- ---- the words of the series that must not be beyond a control limit: all while the status is 0, else all but the last
 

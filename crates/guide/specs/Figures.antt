@@ -1,5 +1,6 @@
--- Document 01, "Figures from the course": the starred figures. A row holds what the definitions give and what the course says, both as
--- numbers. One theorem in `proofs/Figures` covers the table. The figures without a star are among the vectors of `control_chart`.
+-- Document 01, "Figures from the course": the starred figures, as document 02 changed them. A row holds what the definitions give and what
+-- the paper says, both as numbers. One theorem in `proofs/Figures` covers the table. The figures without a star are among the vectors of
+-- `control_chart`.
 use mathlib.Core.Bool.{Bool, true, false}
 use mathlib.Core.List.{List, [], _∷_, _++_, map}
 use Prim.Native.Nat.{ℕ, _+_, _*_, _-_}
@@ -9,7 +10,7 @@ use Rattle.guide.specs.Word as word
 use Rattle.guide.specs.Limits.{Sums, sumsOf, vOf, Limits, limitsOf, controlMultiple, warningMultiple, beyondUpper, beyondLower}
 use Rattle.guide.specs.Limits.{beyondControl, beyondWarning}
 use Rattle.guide.specs.Building as build
-use Rattle.guide.specs.Verdict.{sideTest}
+use Rattle.guide.specs.Verdict.{trendTest, sideTest}
 use Rattle.guide.specs.Machine as machine
 use Rattle.guide.specs.Double.{partsIn}
 use Rattle.guide.specs.ChartLines.{Lines, duplicate, twoSided, linesOf}
@@ -135,8 +136,9 @@ table =
       defined = verdictsOnA (map checkPost (sevenInTens 9950) ++ (checkReanalysis 9995 ∷ []));
       figure = replicate 6 (pos 0) ++ (pos 3 ∷ pos 1 ∷ []);
     }
-    -- "A, posts 10010, 10020, .., 10070: the seventh is 3, though 4 applies too."
-    ∷ record { defined = verdictsOnA (map checkPost (sevenInTens 10010)); figure = replicate 6 (pos 0) ++ (pos 3 ∷ []) }
+    -- document 02, Q-1: "The course's seven posts from 10010 to 10070 now end in 4." Before it the seventh was 3. Both apply
+    ∷ record { defined = verdictsOnA (map checkPost (sevenInTens 10010)); figure = replicate 6 (pos 0) ++ (pos 4 ∷ []) }
+    ∷ record { defined = truth (trendTest (map pos (sevenInTens 10010))) ∷ []; figure = pos 1 ∷ [] }
     ∷ record { defined = truth (sideTest limitsA (map pos (sevenInTens 10010))) ∷ []; figure = pos 1 ∷ [] }
     -- "C: lines times 256 are 2559740, 2559873, 2560136, 2560400, 2560533." Rejection removes none of its words
     ∷ record { defined = buildNumbers (build.building 2 baseC); figure = pos 1 ∷ pos 0 ∷ baseC }

@@ -77,7 +77,8 @@ abbrev pub ifFormed : State → word.Formed → (ℤ → Next) → Next
 ifFormed s (word.formed w) next = next w
 ifFormed s (word.refused n) next = declined s n
 
--- "Post forms the word, adds it to the series, and answers word and verdict"; the verdict sets the status
+-- "Post forms the word, adds it to the series, and answers word and verdict"; the verdict sets the status. Document 02, Q-1: "The machine
+-- judges in the new order throughout." That is the order of `verdict`
 unfoldable pub posting : State → ℤ → Next
 posting s w =
     let v = verdict (limitsFor s) (s .series ++ (w ∷ [])) in

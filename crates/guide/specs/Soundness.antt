@@ -34,7 +34,9 @@ unfoldable pub limitsHold : Limits → List ℤ → List ℤ → ℕ → Bool
 limitsHold limits base series status =
     noneOf (beyondControl limits) base && noneOf (beyondControl limits) (heldWithin status series)
 
--- "status 1 or 2 with a series that is not empty and a verdict 1..4 that posting the last word after those before it would give"
+-- "status 1 or 2 with a series that is not empty and a verdict 1..4 that posting the last word after those before it would give". So a
+-- state that is open under 3 where 4 applies is not sound, and reading refuses it. Document 02, Q-1: "A chart stored open under verdict 3
+-- where 4 applies is refused with 14."
 unfoldable pub openFits : Limits → List ℤ → ℕ → ℕ → Bool
 openFits limits series status openVerdict =
     (leb 1 status && leb status 2)

@@ -1,5 +1,6 @@
--- Document 01, "Post": the verdict on the last word of a series. It depends on the limits and the series alone.
-use mathlib.Core.Bool.{Bool, true, _&&_, _||_}
+-- Document 01, "Post", and document 02, Q-1: the verdict on the last word of a series. It depends on the limits and the series alone.
+use mathlib.Core.Path.{_≡_}
+use mathlib.Core.Bool.{Bool, true, false, _&&_, _||_}
 use mathlib.Core.List.{List, [], _∷_}
 use Prim.Native.Nat.{ℕ}
 use lib.ListN.{length}
@@ -75,16 +76,28 @@ unfoldable pub firstVerdict : List (Bool × ℕ) → ℕ
 firstVerdict [] = 0
 firstVerdict (test ∷ tests) = choose (test .0) (test .1) (firstVerdict tests)
 
--- "the lowest that applies", and 0 for "none of these". "Judging uses chart kind, base and series only": the limits hold what it uses of
--- kind and base
+-- Document 01 asks for "the lowest that applies", and for 0 if "none of these" does. Document 02, Q-1, changes this for 3 and 4: "Where
+-- both apply, 4 is now answered and 3 is not; 1 and 2 still come before them." So the tests stand in the order 1, 2, 4, 3. "Judging uses
+-- chart kind, base and series only": the limits hold what it uses of kind and base
 unfoldable pub verdict : Limits → List ℤ → ℕ
 verdict limits series =
     firstVerdict
     ((controlTest limits series, 1)
     ∷ (warningTest limits series, 2)
-    ∷ (trendTest series, 3)
     ∷ (sideTest limits series, 4)
+    ∷ (trendTest series, 3)
     ∷ [])
+
+-- the order, as a property of the verdict v. `proofs/Verdict` proves that `verdict` has it (`verdict-is`) and that no other number has
+-- (`verdict-only`)
+pub record IsVerdict (limits : Limits) (series : List ℤ) (v : ℕ) : Type 0 where
+  pub control : controlTest limits series ≡ true → v ≡ 1
+  pub warning : controlTest limits series ≡ false → warningTest limits series ≡ true → v ≡ 2
+  pub side : controlTest limits series ≡ false → warningTest limits series ≡ false → sideTest limits series ≡ true → v ≡ 4
+  pub trend : controlTest limits series ≡ false → warningTest limits series ≡ false → sideTest limits series ≡ false
+      → trendTest series ≡ true → v ≡ 3
+  pub none : controlTest limits series ≡ false → warningTest limits series ≡ false → sideTest limits series ≡ false
+      → trendTest series ≡ false → v ≡ 0
 
 -- "Verdicts 1..3 set status 1, verdict 4 sets status 2." A word with verdict 0 leaves the chart free
 unfoldable pub statusFor : ℕ → ℕ

@@ -1,6 +1,6 @@
-// The verdict on the last word of a series: document 01, "Post".
+// The verdict on the last word of a series: document 01, "Post", and document 02, Q-1.
 //
-// Judging uses the limits and the words alone. Each of the four tests is a function, and `verdict` runs them in the paper's order.
+// Judging uses the limits and the words alone. Each of the four tests is a function, and `verdict` runs them in the papers' order.
 use limits::Limits;
 use limits::beyond_control;
 use limits::beyond_warning;
@@ -26,7 +26,7 @@ pub struct RunSide {
     pub below: bool,
 }
 
-// The lowest verdict that applies to the series' last word.
+// The verdict on the series' last word: the first that applies, in the order 1, 2, 4, 3.
 pub fn verdict(l: Limits, series: &[i16]) -> u16
     requires { ⌜ Bounded (l .sums) ⌝ }
     ensures { λ r. ⌜ r ≡ guide.verdict (limitsSay l) (now (series .entry)) ⌝ }
@@ -37,11 +37,11 @@ pub fn verdict(l: Limits, series: &[i16]) -> u16
     if warning_test(l, series) {
         return 2;
     }
-    if trend_test(series) {
-        return 3;
-    }
     if side_test(l, series) {
         return 4;
+    }
+    if trend_test(series) {
+        return 3;
     }
     0
 }

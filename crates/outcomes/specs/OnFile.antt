@@ -3,7 +3,7 @@
 -- that form already, if that chart is sound. A refused build makes no file.
 use mathlib.Core.Path.{_≡_}
 use mathlib.Core.Bool.{Bool, true, false}
-use mathlib.Core.List.{List, []}
+use mathlib.Core.List.{List, [], _++_}
 use Prim.Native.Nat.{ℕ, _≤_}
 use lib.ListN.{length, take}
 use lib.Dec.{eqb, leb}
@@ -76,7 +76,8 @@ faultText n =
     (choose (eqb n noSuchFile) (ascii "there is no such file; build makes it")
     (choose (eqb n 13)
     (ascii "it holds no stored chart (refused 13); check the name, or take the last good copy; to build anew, move it away first")
-    (ascii "the chart in it is not sound (refused 14); take the last good copy; to build anew, move it away first")))
+    (ascii "the chart in it is not sound (refused 14); if an older version left it open, close it with that version, "
+    ++ ascii "else take the last good copy; to build anew, move it away first")))
 
 -- the outcome, the form put into the lent buffer, and the text
 pub record Ending : Type 0 where

@@ -157,7 +157,7 @@ fn put_file_fault(out: &mut [u8], number: u16) -> usize
         _ => put_text(
             out,
             0,
-            b"the chart in it is not sound (refused 14); take the last good copy; to build anew, move it away first",
+            b"the chart in it is not sound (refused 14); if an older version left it open, close it with that version, else take the last good copy; to build anew, move it away first",
         ),
     }
 }
