@@ -11,7 +11,7 @@
  *     kind 2, check       a: found; b: made up; c is ignored               word = 10000 * a / b, in -20000..20000
  *     kind 3, spike       a: spiked sample; b: unspiked sample; c: added   word = 10000 * (a - b) / c, in -20000..20000
  *
- * The quotient goes to the nearest whole number, halves away from zero.
+ * The quotient goes to the nearest whole number. If it is exactly halfway between two, it goes to the even one: 312.5 gives 312.
  *
  * THE CHART has a base, the words that its limits come from, and a series, the words posted since. It is free, or a reanalysis or a
  * correction is due for an open verdict. A chart is always in its stored form, here called the form, at the front of a buffer that the
@@ -40,7 +40,7 @@
 #include <stdint.h>
 
 /* The version, as `control_chart --version` prints it. */
-#define CONTROL_CHART_VERSION "1.1.0"
+#define CONTROL_CHART_VERSION "1.2.0"
 
 #ifdef __cplusplus
 extern "C" {
@@ -150,7 +150,7 @@ uint16_t control_chart_against_lines(const uint8_t *chart, size_t size, int32_t 
                                      uint8_t *beyond, size_t room);
 
 /* Tests whether the bytes are the stored form of a sound chart (docs/RULES.md, 9.5). If version 1.0.0 left a chart open under verdict 3,
- * though 4 applies, the chart is not sound in version 1.1.0: close it with version 1.0.0 (docs/C.md, Keeping a chart).
+ * though 4 applies, the chart is not sound in later versions: close it with version 1.0.0 (docs/C.md, Keeping a chart).
  * Refuses with 13, 14. */
 uint16_t control_chart_check(const uint8_t *chart, size_t size);
 

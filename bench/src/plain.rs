@@ -78,7 +78,7 @@ impl Kind {
         }
     }
 
-    /// The word of a reading: the nearest whole number, halves away from zero.
+    /// The word of a reading: the nearest whole number, halves to the even one.
     fn word(self, a: i64, b: i64, c: i64) -> Result<i16, Refusal> {
         let in_range = READINGS.contains(&a) && READINGS.contains(&b) && (self != Kind::Spike || READINGS.contains(&c));
         if !in_range {
@@ -92,8 +92,18 @@ impl Kind {
         if divisor == 0 {
             return Err(Refusal::Divisor);
         }
-        let size = (2 * numerator.abs() + divisor) / (2 * divisor);
+        let size = nearest(numerator.abs(), divisor);
         i16::try_from(size * numerator.signum()).ok().filter(|word| self.words().contains(word)).ok_or(Refusal::WordRange)
+    }
+}
+
+/// The quotient of two whole numbers that are not negative, rounded: halves go to the even one.
+fn nearest(numerator: i64, divisor: i64) -> i64 {
+    let whole = numerator / divisor;
+    match (2 * (numerator % divisor)).cmp(&divisor) {
+        Ordering::Less => whole,
+        Ordering::Equal => whole + whole % 2,
+        Ordering::Greater => whole + 1,
     }
 }
 

@@ -204,15 +204,20 @@ fn a_after(words: Vec<i16>) -> Desk {
 #[test]
 fn words_of_readings() {
     assert_eq!(word(1, 1, 2, 0), Ok(6667));
-    assert_eq!(word(1, 65, 63, 0), Ok(313));
-    assert_eq!(word(3, 0, 1, 32), Ok(-313));
+    assert_eq!(word(1, 65, 63, 0), Ok(312));
+    assert_eq!(word(3, 0, 1, 32), Ok(-312));
     assert_eq!(word(3, 200_004, 0, 100_000), Ok(20_000));
-    assert_eq!(word(3, 200_005, 0, 100_000), Err(7));
+    assert_eq!(word(3, 200_005, 0, 100_000), Ok(20_000));
+    assert_eq!(word(3, 200_006, 0, 100_000), Err(7));
     assert_eq!(word(3, 300, 0, 100), Err(7));
     assert_eq!(word(3, 0, 200_004, 100_000), Ok(-20_000));
-    assert_eq!(word(3, 0, 200_005, 100_000), Err(7));
-    assert_eq!(word(3, 0, 1, 20_000), Ok(-1));
-    assert_eq!(word(3, 1, 0, 20_000), Ok(1));
+    assert_eq!(word(3, 0, 200_005, 100_000), Ok(-20_000));
+    assert_eq!(word(3, 0, 200_006, 100_000), Err(7));
+    assert_eq!(word(2, 1, 20_000, 0), Ok(0));
+    assert_eq!(word(3, 0, 1, 20_000), Ok(0));
+    assert_eq!(word(3, 0, 3, 20_000), Ok(-2));
+    assert_eq!(word(2, 625, 20_000, 0), Ok(312));
+    assert_eq!(word(2, 627, 20_000, 0), Ok(314));
     assert_eq!(word(3, 0, 1, 20_001), Ok(0));
     assert_eq!(word(1, 1, 2, -5), Ok(6667));
     assert_eq!(word(2, 1, 2, i64::MIN), Ok(5000));

@@ -1,6 +1,6 @@
 """Help for the generators: readings for a wanted word, words for a wanted verdict, a record of what occurred."""
 
-from math import isqrt
+from math import gcd, isqrt
 
 import commands
 import model
@@ -30,8 +30,67 @@ def formed(kind, numbers):
         return None
 
 
+def quotient(kind, a, b, c):
+    """Numerator and divisor of the word of three numbers, for a kind 1..3: document 01, a second time."""
+    if kind == 1:
+        return 20000 * abs(a - b), a + b
+    return (10000 * a, b) if kind == 2 else (10000 * (a - b), c)
+
+
+def halfway(kind, twice, times=1):
+    """Three numbers whose quotient is half of the odd number `twice`, which is below 0 for kind 3 only.
+
+    `times` 1 gives the least such numbers. Where `times` is odd, these readings are odd: X1 and X2; X; the one of SSR
+    and SR that is not 0. Where `times` is even, all readings are even.
+    """
+    whole = 40000 if kind == 1 else 20000
+    part = gcd(twice, whole)
+    upper, lower = twice // part * times, whole // part * times
+    if kind == 1:
+        return lower + upper, lower - upper, 0
+    if kind == 2:
+        return upper, lower, 0
+    return max(upper, 0), max(-upper, 0), lower
+
+
+def half(kind, a, b, c):
+    """Where the quotient is halfway between two words, as text: its side of 0, and its whole part. Else None."""
+    numerator, divisor = quotient(kind, a, b, c)
+    whole, rest = divmod(abs(numerator), divisor)
+    if 2 * rest != divisor:
+        return None
+    return "%s 0, whole part %s" % ("above" if numerator > 0 else "below", "odd" if whole % 2 else "even")
+
+
+def by_document_01(kind, numbers, word):
+    """Whether the word would be the wanted one with halves away from zero, as before document 02, Q-3."""
+    if formed(kind, numbers) is None:
+        return False
+    numerator, divisor = quotient(kind, *numbers)
+    least, most = (2 * abs(word) - 1) * divisor, (2 * abs(word) + 1) * divisor
+    return least <= 2 * abs(numerator) < most and numerator * word >= 0
+
+
+def farther(kind, numbers):
+    """Numbers whose quotient is a little farther from 0, on the same side: one reading is changed by one."""
+    a, b, c = numbers
+    if kind == 2:
+        return a + 1, b, c
+    if a > b:
+        return (a, b - 1, c) if b > 0 else (a + 1, b, c)
+    return (a - 1, b, c) if a > 0 else (a, b + 1, c)
+
+
 def rounded(rng, kind, word):
-    """Three numbers whose word is the wanted one, mostly by rounding; halves occur often."""
+    """Three numbers whose word is the wanted one, mostly by rounding.
+
+    For an even word, halves occur often. No half goes to an odd word (document 02, Q-3). For an odd word, the numbers
+    next to a half occur often.
+
+    The tries end where halves away from zero would give the word. So as many numbers are drawn as before document 02,
+    Q-3, and the vectors after these stay as they were. Of the tries, the first whose word is the wanted one is given.
+    """
+    tried = []
     for _ in range(20):
         if kind == 1:
             total = rng.choice((rng.randint(1, 400), rng.randint(20000, 900000), rng.randint(1, 10 ** 9)))
@@ -60,9 +119,11 @@ def rounded(rng, kind, word):
                     continue
                 unspiked = rng.choice((least, rng.randint(least, most), most))
                 numbers = [unspiked + upper, unspiked, divisor]
-        if formed(kind, numbers) == word:
-            return tuple(numbers)
-    return exact(kind, word)
+        tried.append(tuple(numbers))
+        if by_document_01(kind, numbers, word):
+            tried.append(farther(kind, numbers))
+            break
+    return next((numbers for numbers in tried if formed(kind, numbers) == word), exact(kind, word))
 
 
 def reading_for(rng, kind, word):
@@ -230,10 +291,11 @@ def applying(chart, command, fields):
         used = (a, b) if kind in (1, 2) else (a, b, c)
         if any(not 0 <= reading <= 10 ** 9 for reading in used):
             found.append(5)
-        numerator, divisor = {1: (20000 * abs(a - b), a + b), 2: (10000 * a, b)}.get(kind, (10000 * (a - b), c))
+        numerator, divisor = quotient(kind, a, b, c)
         if kind in KINDS and divisor == 0:
             found.append(6)
-        elif kind in KINDS and abs(numerator) * 2 >= abs(divisor) * 40001:
+        elif kind in KINDS and abs(numerator) * 2 > abs(divisor) * 40001:
+            # document 02, Q-3: 20000.5 goes to 20000, which is even. So 7 begins above it.
             found.append(7)
     if command == "build":
         kind, words = fields[0], fields[1:]
@@ -320,6 +382,10 @@ class Record:
                     self.count("%s refused %d where %d applies too" % (command, reasons[0], other))
                 assert reasons[0] == int(text.split()[1]), (line, text, reasons)
             return
+        if command in ("word", "post", "reanalyse"):
+            numbers = [commands.number(field.encode()) for field in fields[1:]]
+            if half(*numbers):
+                self.count("%s kind %d halfway, %s" % (command, numbers[0], half(*numbers)))
         if command == "post":
             self.count("post kind %d verdict %s" % (before.kind, text.split()[-1]))
             if trend(self.chart):

@@ -21,17 +21,22 @@ E = 3, (10000,) * 3 + (10002,) * 9 + (10003,) * 5
 F = 3, (10000,) * 2 + (10001,) * 8 + (10002,) * 9
 G = 1, (0,) * 7 + (1,) * 5 + (2,) * 13
 H = 2, (20000,) * 7 + (-20000,) * 3
+J = 1, (296,) * 7 + (304,) * 7 + (300,)
 K = 1, (900,) * 7 + (1100,) * 7 + (1000,)
+L = 3, (-296,) * 7 + (-304,) * 7 + (-300,)
 M = 2, (-10000,) * 7 + (-10001,) * 8
 N = 3, (-1,) * 7 + (0,) * 8
 P = 3, (1,) * 7 + (0,) * 8
 Q = 3, (0,) * 2 + (1,) + (2,) * 6 + (3,) * 5 + (4,) * 5
 R = 3, (-1100,) * 7 + (-900,) * 7 + (-1000,)
 T = 1, (0,) * 10 + (1, 12, 144, 1728, 20000)
+U = 2, (296,) * 7 + (304,) * 7 + (300,)
+V = 2, (297,) * 7 + (305,) * 7 + (301,)
 W = 2, (-20000,) * 16 + (20000,) * 16
+Y = 1, (200,) * 7 + (400,) * 7 + (300,)
 Z = 1, (1000,) * 15
-LETTERS = {"A": A, "C": C, "D": D, "E": E, "F": F, "G": G, "H": H, "K": K, "M": M, "N": N, "P": P, "Q": Q, "R": R,
-           "T": T, "W": W, "Z": Z}
+LETTERS = {"A": A, "C": C, "D": D, "E": E, "F": F, "G": G, "H": H, "J": J, "K": K, "L": L, "M": M, "N": N, "P": P,
+           "Q": Q, "R": R, "T": T, "U": U, "V": V, "W": W, "Y": Y, "Z": Z}
 
 # Words for other bases.
 HIGH = (1000,) * 14 + (2000,)
@@ -179,13 +184,17 @@ BEFORE = (
 WORDS = (
     "document 01, figures: words",
     ("duplicate X1 1, X2 2", "word 1 1 2 0"),
+    "document 02, Q-3: a quotient halfway between two words now goes to the even one: 312.5 and -312.5",
     ("duplicate X1 65, X2 63", "word 1 65 63 0"),
     ("spike SSR 0, SR 1, SA 32", "word 3 0 1 32"),
     "document 01, figures, READINGS 4: the range is tested after rounding",
     ("spike SSR 200004, SR 0, SA 100000", "word 3 200004 0 100000"),
-    ("spike SSR 200005, SR 0, SA 100000", "word 3 200005 0 100000"),
     ("spike SSR 0, SR 200004, SA 100000", "word 3 0 200004 100000"),
+    "document 02, Q-3, READINGS-02 6: 20000.5 now goes to 20000 and is accepted, and -20000.5 too; 20000.6 is 7",
+    ("spike SSR 200005, SR 0, SA 100000", "word 3 200005 0 100000"),
     ("spike SSR 0, SR 200005, SA 100000", "word 3 0 200005 100000"),
+    ("spike SSR 200006, SR 0, SA 100000", "word 3 200006 0 100000"),
+    ("spike SSR 0, SR 200006, SA 100000", "word 3 0 200006 100000"),
     "document 01, from readings to words: 41.35 percent",
     ("check X 4135, A 10000", "word 2 4135 10000 0"),
     "READINGS 1: kinds 1 and 2 ignore the third number, for refusal 5 too; 5 comes before 6",
@@ -199,7 +208,7 @@ WORDS = (
     ("check X 1, A 0", "word 2 1 0 0"),
     ("spike SSR 5, SR 5, SA 0", "word 3 5 5 0"),
     ("spike SSR 5, SR 3, SA 0", "word 3 5 3 0"),
-    "READINGS 3: halves go away from zero on both sides",
+    "READINGS-02 5: a half next to 0 goes to 0 on both sides, and is neither -0 nor -1",
     ("spike SSR 0, SR 1, SA 20000", "word 3 0 1 20000"),
     ("spike SSR 1, SR 0, SA 20000", "word 3 1 0 20000"),
     ("spike SSR 0, SR 1, SA 20001", "word 3 0 1 20001"),
@@ -589,6 +598,117 @@ ONE_SIDE = (
             ((1, 2), (2, 2), *THREE_AND_FOUR)),
 )
 
+HALVES = (
+    "READINGS-02 5: a half goes to the even one: down where the whole part is even, up where it is odd",
+    ("check X 1, A 20000", "word 2 1 20000 0"),
+    ("check X 3, A 20000", "word 2 3 20000 0"),
+    ("check X 5, A 20000", "word 2 5 20000 0"),
+    ("check X 625, A 20000", "word 2 625 20000 0"),
+    ("check X 627, A 20000", "word 2 627 20000 0"),
+    ("spike SSR 3, SR 0, SA 20000", "word 3 3 0 20000"),
+    ("spike SSR 5, SR 0, SA 20000", "word 3 5 0 20000"),
+    ("duplicate X1 40001, X2 39999", "word 1 40001 39999 0"),
+    ("duplicate X1 40003, X2 39997", "word 1 40003 39997 0"),
+    ("duplicate X1 39995, X2 40005", "word 1 39995 40005 0"),
+    "READINGS-02 5: the same below 0",
+    ("spike SSR 0, SR 3, SA 20000", "word 3 0 3 20000"),
+    ("spike SSR 0, SR 5, SA 20000", "word 3 0 5 20000"),
+    ("spike SSR 0, SR 625, SA 20000", "word 3 0 625 20000"),
+    ("spike SSR 0, SR 627, SA 20000", "word 3 0 627 20000"),
+    "READINGS-02 5: only the halfway case changes; 312.5 and 313.5 and the quotients next to them",
+    ("check X 31249999, A 1000000000", "word 2 31249999 1000000000 0"),
+    ("check X 31250000, A 1000000000", "word 2 31250000 1000000000 0"),
+    ("check X 31250001, A 1000000000", "word 2 31250001 1000000000 0"),
+    ("check X 31349999, A 1000000000", "word 2 31349999 1000000000 0"),
+    ("check X 31350000, A 1000000000", "word 2 31350000 1000000000 0"),
+    ("check X 31350001, A 1000000000", "word 2 31350001 1000000000 0"),
+    ("duplicate X1 649999999, X2 630000000", "word 1 649999999 630000000 0"),
+    ("duplicate X1 650000000, X2 630000000", "word 1 650000000 630000000 0"),
+    ("duplicate X1 650000001, X2 630000000", "word 1 650000001 630000000 0"),
+    ("spike SSR 0, SR 31249999, SA 1000000000", "word 3 0 31249999 1000000000"),
+    ("spike SSR 0, SR 31250000, SA 1000000000", "word 3 0 31250000 1000000000"),
+    ("spike SSR 0, SR 31250001, SA 1000000000", "word 3 0 31250001 1000000000"),
+    ("spike SSR 0, SR 31349999, SA 1000000000", "word 3 0 31349999 1000000000"),
+    ("spike SSR 0, SR 31350000, SA 1000000000", "word 3 0 31350000 1000000000"),
+    ("spike SSR 0, SR 31350001, SA 1000000000", "word 3 0 31350001 1000000000"),
+    "document 02, Q-3: the word is even, whether the readings are odd or even: 312.5, 937.5, 1562.5 and 2187.5",
+    ("check X 1, A 32", "word 2 1 32 0"),
+    ("check X 2, A 64", "word 2 2 64 0"),
+    ("check X 3, A 32", "word 2 3 32 0"),
+    ("check X 6, A 64", "word 2 6 64 0"),
+    ("check X 5, A 32", "word 2 5 32 0"),
+    ("check X 7, A 32", "word 2 7 32 0"),
+    ("duplicate X1 130, X2 126", "word 1 130 126 0"),
+    ("duplicate X1 67, X2 61", "word 1 67 61 0"),
+    ("duplicate X1 134, X2 122", "word 1 134 122 0"),
+    ("spike SSR 0, SR 2, SA 64", "word 3 0 2 64"),
+    ("spike SSR 0, SR 3, SA 32", "word 3 0 3 32"),
+    "READINGS-02 6: the range is tested after rounding: 19999.5 and 20000.5 go to 20000, 20001.5 goes to 20002",
+    ("check X 199995, A 100000", "word 2 199995 100000 0"),
+    ("check X 200005, A 100000", "word 2 200005 100000 0"),
+    ("check X 200006, A 100000", "word 2 200006 100000 0"),
+    ("check X 200015, A 100000", "word 2 200015 100000 0"),
+    ("duplicate X1 79999, X2 1", "word 1 79999 1 0"),
+    ("spike SSR 200015, SR 0, SA 100000", "word 3 200015 0 100000"),
+    ("spike SSR 0, SR 199995, SA 100000", "word 3 0 199995 100000"),
+    ("spike SSR 0, SR 200015, SA 100000", "word 3 0 200015 100000"),
+    ("A, post of X 200005, A 100000", build(A), "post 2 200005 100000 0"),
+    ("A, post of X 200006, A 100000", build(A), "post 2 200006 100000 0"),
+    ("A after 10250 10301, reanalysis of X 200005, A 100000", read(AFTER_OUT), "reanalyse 2 200005 100000 0"),
+    ("A after 10250 10301, reanalysis of X 200006, A 100000", read(AFTER_OUT), "reanalyse 2 200006 100000 0"),
+    "document 02, Q-3: a post is compared with the new word; 312 is on the control limit of J and U, -312 on that of L",
+    ("J, post of X1 65, X2 63", build(J), "post 1 65 63 0"),
+    ("J, post of X1 650000001, X2 630000000", build(J), "post 1 650000001 630000000 0"),
+    ("L, post of SSR 0, SR 1, SA 32", build(L), "post 3 0 1 32"),
+    ("L, post of SSR 0, SR 31250001, SA 1000000000", build(L), "post 3 0 31250001 1000000000"),
+    ("U, post of X 1, A 32", build(U), "post 2 1 32 0"),
+    ("U, post of X 31250001, A 1000000000", build(U), "post 2 31250001 1000000000 0"),
+    "document 02, Q-3: the same where the new word is beyond; 288.5 goes to 288, and V has a control limit of 289",
+    ("V, post of X 577, A 20000", build(V), "post 2 577 20000 0"),
+    "document 02, Q-3: two in a row; 308.5 goes to 308, the warning limit of U; 292.5 to 292, and that of V is 293",
+    ("U after 309, post of X 617, A 20000", *posted(U, 309), "post 2 617 20000 0"),
+    ("V after 292, post of X 585, A 20000", *posted(V, 292), "post 2 585 20000 0"),
+    "document 02, Q-3: a trend; 302.5 goes to 302, which is equal to the word before it; 303.5 goes to 304",
+    ("U after 297 up to 302, post of X 605, A 20000", *posted(U, *range(297, 303)), "post 2 605 20000 0"),
+    ("U after 297 up to 302, post of X 607, A 20000", *posted(U, *range(297, 303)), "post 2 607 20000 0"),
+    "document 02, Q-3: one side; 300.5 goes to 300, which is the mean of U and below that of V",
+    ("U after 301 six times, post of X 601, A 20000", *posted(U, *[301] * 6), "post 2 601 20000 0"),
+    ("V after 300 six times, post of X 601, A 20000", *posted(V, *[300] * 6), "post 2 601 20000 0"),
+    "document 02, Q-3: a reanalysis is compared with the new word, here for verdict 1",
+    ("J after 313, reanalysis of X1 65, X2 63", read(Chart(*J, (313,), 1, 1)), "reanalyse 1 65 63 0"),
+    ("J after 313, reanalysis of X1 650000001, X2 630000000", read(Chart(*J, (313,), 1, 1)),
+     "reanalyse 1 650000001 630000000 0"),
+    ("L after -313, reanalysis of SSR 0, SR 1, SA 32", read(Chart(*L, (-313,), 1, 1)), "reanalyse 3 0 1 32"),
+    ("V after 314, reanalysis of X 577, A 20000", read(Chart(*V, (314,), 1, 1)), "reanalyse 2 577 20000 0"),
+    "document 02, Q-3: the same for verdict 2",
+    ("U after 309 309, reanalysis of X 617, A 20000", read(Chart(*U, (309, 309), 1, 2)), "reanalyse 2 617 20000 0"),
+    ("V after 310 310, reanalysis of X 585, A 20000", read(Chart(*V, (310, 310), 1, 2)), "reanalyse 2 585 20000 0"),
+    "document 02, Q-3: the same for verdict 3; 304.5 goes to 304, which is below 305 on U and near the mean of V",
+    ("U after 299 up to 303 and 305 306, reanalysis of X 609, A 20000",
+     read(Chart(*U, (*range(299, 304), 305, 306), 1, 3)), "reanalyse 2 609 20000 0"),
+    ("V after 298 up to 304, reanalysis of X 609, A 20000", read(Chart(*V, tuple(range(298, 305)), 1, 3)),
+     "reanalyse 2 609 20000 0"),
+    "document 02, Q-3: the same for verdict 4",
+    ("V after 306 seven times with status 1, reanalysis of X 609, A 20000", read(Chart(*V, (306,) * 7, 1, 4)),
+     "reanalyse 2 609 20000 0"),
+    "READINGS-02 7: lines are no percentages and keep their own rule; the mean line of N is -120 / 256",
+    ("-1 seven times and 0 eight times, kind 3, lines", build(N), "lines"),
+    ("J, lines", build(J), "lines"),
+    ("L, lines", build(L), "lines"),
+    "document 02, Q-3, READINGS-02 7: words in stored charts are left alone; 65 and 63 gave 313 before",
+    ("Y, series 313, read", read(Chart(*Y, (313,), 0, 0))),
+    ("Y after that, post of X1 65, X2 63 (that: series 313 from store)", "post 1 65 63 0"),
+    ("Y after that, write (that: 313 from store, post of 312)", "write"),
+    ("Y after that, renewal (that: 313 from store, post of 312)", "renew"),
+    ("Y after that, lines (that: 313 from store, post of 312, renewal)", "lines"),
+    "READINGS-02 7: a base of the old words stays too; S is 0, so that the new word is beyond its limits",
+    ("-313 fifteen times and a series of -313, kind 3, read", read(Chart(3, (-313,) * 15, (-313,), 0, 0))),
+    ("-313 fifteen times after that, post of SSR 0, SR 1, SA 32 (that: series -313 from store)", "post 3 0 1 32"),
+    ("-313 fifteen times after that: -313 (that: series -313 from store, post of -312)", call("reanalyse", 3, -313)),
+    "READINGS-02 7: a verdict that was opened by an old word is still open, though the same readings now give 312",
+    *opened("J, series 313", J, (313,), ((0, 0), (1, 1), (2, 1))),
+)
+
 SECTIONS = (
     ("Before a chart is built or read", BEFORE),
     ("Words", WORDS),
@@ -603,6 +723,7 @@ SECTIONS = (
     ("Lines", LINES),
     ("Lists, call by call", LISTS),
     ("One side before trend", ONE_SIDE),
+    ("Halves to even", HALVES),
 )
 
 

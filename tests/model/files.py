@@ -60,6 +60,8 @@ def on_file(held, line):
 A = (9900,) * 7 + (10100,) * 7 + (10000,)
 K = (900,) * 7 + (1100,) * 7 + (1000,)
 N = (-1100,) * 7 + (-900,) * 7 + (-1000,)
+NARROW = (296,) * 7 + (304,) * 7 + (300,)
+WIDE = (200,) * 7 + (400,) * 7 + (300,)
 TEN = (0,) * 10 + (1, 12, 144, 1728, 20000)
 HIGH = (1000,) * 14 + (2000,)
 BASES = ((1, K), (2, A), (3, N))
@@ -228,6 +230,16 @@ def each_command():
         yield model.stored_form(full_open), line
 
 
+def halves():
+    """document 02, Q-3: files with 313 and -313, as 312.5 and -312.5 went before; these halves again; 20000.5."""
+    negative = tuple(-word for word in NARROW)
+    for chart, line in ((Chart(1, WIDE, (313,), 0, 0), b"show"), (Chart(1, WIDE, (313,), 0, 0), b"post 1 65 63 0"),
+                        (Chart(1, NARROW, (313,), 1, 1), b"reanalyse 1 65 63 0"),
+                        (Chart(3, negative, (-313,), 1, 1), b"reanalyse 3 0 1 32"),
+                        (FREE, b"post 2 200005 100000 0"), (OUT, b"reanalyse 2 200006 100000 0")):
+        yield model.stored_form(chart), line
+
+
 def as_given():
     """A mark or a carriage return in the arguments belongs to the line."""
     for held in (None, model.stored_form(FREE)):
@@ -254,7 +266,7 @@ def cases():
     """All cases, each once: a list of pairs (held, line)."""
     rng = random.Random(20240106)
     found = [*without_command(), *missing(), *damaged(), *unsound(), *verdicts(), *refused_readings(),
-             *each_command(), *as_given()]
+             *each_command(), *halves(), *as_given()]
     found += [random_file(rng) for _ in range(30)]
     return list(dict.fromkeys(found))
 

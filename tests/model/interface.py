@@ -183,7 +183,7 @@ VERDICT_TEXTS = {
 NO_SUCH_VERDICT = "no such verdict"
 
 # The header: CONTROL_CHART_VERSION, and CONTROL_CHART_TEXT_MOST, which is room for every text with its 0 byte.
-VERSION = "1.1.0"
+VERSION = "1.2.0"
 TEXT_MOST = 64
 
 

@@ -23,6 +23,9 @@ Z = (1000,) * 15
 TEN = (0,) * 10 + (1, 12, 144, 1728, 20000)
 BASES = ((1, K), (2, A), (3, N))
 
+# The kinds, with the sides of 0 on which their readings give words.
+SIDES = ((1, 1), (2, 1), (3, 1), (3, -1))
+
 BIG = 9223372036854775807
 ODD_READINGS = (-1, 1000000001, BIG, -BIG - 1, 4294967297, -2147483648, 10 ** 18)
 
@@ -92,12 +95,47 @@ def words(rec, rng):
             rec.do("word", 3, 1000 * part + off, 0, 20000000)
             rec.do("word", 3, 5, 1000 * part + off + 5, 20000000)
             rec.do("word", 1, 20000000 + 500 * part + off, 20000000 - 500 * part, 0)
+    halves(rec)
     for _ in range(120):
         kind = rng.choice(choices.KINDS)
         word = rng.randint(choices.least_word(kind), 20000)
         rec.do("word", kind, *choices.rounded(rng, kind, word))
     for _ in range(60):
         rec.do("word", rng.choice(choices.KINDS), rng.randint(0, 40), rng.randint(0, 40), rng.randint(0, 40))
+
+
+def halves(rec):
+    """document 02, Q-3: halves and their neighbours, by all kinds, on both sides of 0 and at both ends of the range.
+
+    Whole parts are even and odd. The readings are odd, then even, then nearly as great as they can be. The last have
+    their neighbours on both sides with them.
+    """
+    for twice in (1, 3, 5, 7, 623, 625, 627, 1875, 3125, 4375, 19999, 20001, 20003, 38125, 39375, 39997, 39999, 40001,
+                  40003):
+        for kind, way in SIDES:
+            if kind == 1 and twice > 40000:
+                continue
+            most = 999999999 // max(choices.halfway(kind, way * twice))
+            for times in (1, 2):
+                rec.do("word", kind, *choices.halfway(kind, way * twice, times))
+            a, b, c = choices.halfway(kind, way * twice, most)
+            for off in (-1, 0, 1):
+                numbers = (a, b + off, c) if way < 0 else (a + off, b, c)
+                rec.do("word", kind, *numbers)
+                if kind == 1:
+                    rec.do("word", kind, b, a + off, c)
+    # Both readings of a spike are above 0.
+    for twice in (1, 3, 40001, 40003):
+        for way in (1, -1):
+            for off in (-1, 0, 1):
+                rec.do("word", 3, 500000000 + way * (1000 * twice + off), 500000000, 20000000)
+    # The divisor is 32, 64 or 96; for kind 1 it is 128, 256 or 384, as with 65 and 63.
+    for odd in (1, 3, 5, 7, 9, 63, 65):
+        for factor in (1, 2, 3):
+            rec.do("word", 2, factor * odd, factor * 32, 0)
+            rec.do("word", 3, 0, factor * odd, factor * 32)
+            if odd < 64:
+                rec.do("word", 1, factor * (64 - odd), factor * (64 + odd), 0)
 
 
 def builds(rec, rng):
@@ -325,6 +363,54 @@ def one_side_before_trend(rec):
                 rec.do("show")
 
 
+def halves_to_even(rec):
+    """document 02, Q-3: each half between two words with different outcomes, as a post and as a reanalysis.
+
+    S is 4. So the limits are 8 and 12 from the mean. The mean is even or odd, above 0, at 0 or below 0.
+    """
+    comment(rec, "halves to even")
+    # Six words at most, by their distance from the mean; then the half is posted.
+    before = ((), (9,), (-9,), (1,) * 6, (-1,) * 6, (-3, -2, -1, 0, 1, 2), (3, 2, 1, 0, -1, -2))
+    # The words of an open verdict, 1 to 4. In a trend the word before the last is away from the mean.
+    opened = ((13,), (-13,), (9, 9), (-9, -9), (-1, 0, 1, 2, 3, 5, 6), (1, 0, -1, -2, -3, -5, -6),
+              (-1, 0, 1, 2, 3, 6, 7), (1, 0, -1, -2, -3, -6, -7), (6,) * 7, (-6,) * 7)
+    for kind, mean in ((1, 300), (1, 301), (2, 300), (2, 301), (3, 300), (3, 301), (3, 0), (3, 1), (3, -1), (3, -300),
+                       (3, -301)):
+        base = (mean - 4,) * 7 + (mean + 4,) * 7 + (mean,)
+        for distances in before:
+            series = tuple(away(base, 1, distances))
+            for word in range(mean - 14, mean + 14):
+                verdicts = [model.judge(kind, base, series + (other,)) for other in (word, word + 1)]
+                if verdicts[0] != verdicts[1]:
+                    rec.read_chart(Chart(kind, base, series, 0, 0))
+                    rec.do("post", kind, *choices.halfway(kind, 2 * word + 1))
+        for distances in opened:
+            series = tuple(away(base, 1, distances))
+            verdict = model.judge(kind, base, series)
+            if verdict == 0:
+                continue
+            chart = Chart(kind, base, series, 1, verdict)
+            for pair in choices.flips(chart):
+                rec.read_chart(chart)
+                rec.do("reanalyse", kind, *choices.halfway(kind, sum(pair)))
+                rec.do("show")
+    # 20001.5 is refused with 7. 20000.5 goes to the greatest word, and -20000.5 to the least.
+    for kind, base, way in ((2, A, 1), (3, A, 1), (3, N, -1)):
+        rec.read_chart(Chart(kind, base, (), 0, 0))
+        for command in ("post", "reanalyse"):
+            for twice in (40003, 40001):
+                rec.do(command, kind, *choices.halfway(kind, way * twice))
+                rec.do("show")
+    # Words in stored charts are left alone: 313 stays, though the half that gave 313 before gives 312 now.
+    for kind, way in SIDES:
+        base = tuple(way * word for word in (213,) * 7 + (413,) * 7 + (313,))
+        rec.read_chart(Chart(kind, base, (way * 313,), 0, 0))
+        rec.do("show")
+        rec.do("post", kind, *choices.halfway(kind, way * 625))
+        for command in ("show", "write", "lines", "renew", "show", "lines"):
+            rec.do(command)
+
+
 def open_states(rec, rng):
     """Every verdict for each kind, and the edges of every reanalysis."""
     comment(rec, "open verdicts and the edges of reanalysis")
@@ -439,7 +525,7 @@ def refusals(rec, rng):
                     rec.do(command, given, *numbers)
             for numbers in ((-1, 1, 1), (1, -1, 1), (1, 1, -1), (1000000001, 1, 1), (1, 1000000001, 1), (0, 0, 0),
                             (1000000001, 0, 0), (-1, 0, 0), (300, 1, 1), (300, 0, 100), (0, 300, 100), (5, 0, 0),
-                            (5, 5, 0), (200005, 100000, 0), (200005, 0, 100000), (0, 200005, 100000),
+                            (5, 5, 0), (200006, 100000, 0), (200006, 0, 100000), (0, 200006, 100000),
                             (1000000001, 0, 1), (BIG, BIG, BIG), (-BIG - 1, 0, 0)):
                 if command == "post" and choices.formed(kind, numbers) is not None:
                     continue
@@ -1039,6 +1125,7 @@ def make():
     builds(rec, rng)
     posts_and_reanalyses(rec)
     one_side_before_trend(rec)
+    halves_to_even(rec)
     refusals(rec, rng)
     open_states(rec, apart(rng, 10289))
     renewals(rec, rng)

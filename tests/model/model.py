@@ -1,4 +1,4 @@
-"""A model of document 01, the paper on control charts, with request Q-1 of document 02. Whole numbers only.
+"""A model of document 01, the paper on control charts, with requests Q-1 and Q-3 of document 02. Whole numbers only.
 
 Each function names the heading of document 01 that it follows, or the request of document 02. A refused call raises
 Refused with the number from the table; the chart that was handed in is then unchanged.
@@ -38,9 +38,17 @@ class Refused(Exception):
 # From readings to words
 
 def nearest(numerator, divisor):
-    """From readings to words: the nearest whole number, halves away from zero; divisor above 0."""
-    size = (2 * abs(numerator) + divisor) // (2 * divisor)
-    return -size if numerator < 0 else size
+    """From readings to words: the nearest whole number; divisor above 0.
+
+    document 02, Q-3: a quotient exactly halfway between two words goes to the even one, above and below zero.
+    """
+    # The quotient is lower + rest / divisor, and 0 <= rest < divisor. So it lies between lower and lower + 1.
+    lower, rest = divmod(numerator, divisor)
+    if 2 * rest < divisor:
+        return lower
+    if 2 * rest > divisor:
+        return lower + 1
+    return lower if lower % 2 == 0 else lower + 1
 
 
 def in_range(kind, word):

@@ -17,7 +17,9 @@ from model import Chart
 
 A = (9900,) * 7 + (10100,) * 7 + (10000,)
 C = (10000,) * 7 + (10001,) * 8
+J = (296,) * 7 + (304,) * 7 + (300,)
 K = (900,) * 7 + (1100,) * 7 + (1000,)
+Y = (200,) * 7 + (400,) * 7 + (300,)
 
 # The stored form of a fresh A, by hand: ac 26 is 9900, 74 27 is 10100, 10 27 is 10000.
 A_FORM = bytes.fromhex("0800 0100 0200 0000 0000 2000 0200" + "ac26" * 7 + "7427" * 7 + "1027" + "0200 0300")
@@ -255,6 +257,63 @@ def test_one_side_before_trend():
         same((lines, made.count(lines)), (lines, 1))
 
 
+def test_halves_to_even():
+    """Document 02, Q-3: on words, chart values, lists and lent bytes; readings 5 to 7 of document 02."""
+    for given, wanted in (((1, 65, 63, 0), 312), ((3, 0, 1, 32), -312), ((3, 200005, 0, 100000), 20000),
+                          ((3, 0, 200005, 100000), -20000), ((2, 1, 20000, 0), 0), ((3, 0, 1, 20000), 0),
+                          ((3, 0, 3, 20000), -2), ((2, 627, 20000, 0), 314), ((2, 625, 20000, 0), 312)):
+        same((given, interface.word(*given)), (given, wanted))
+    for given in ((3, 200006, 0, 100000), (3, 0, 200006, 100000), (2, 200006, 100000, 0)):
+        same((given, refusal(interface.word, *given)), (given, 7))
+    # A chart value keeps 313, the word of 65 and 63 before. A new post of them adds 312.
+    value = value_of(Chart(1, Y, (313,), 0, 0))
+    same(chart_of(value), Chart(1, Y, (313,), 0, 0))
+    posted, word, verdict = on_value(value, model.post, 1, 65, 63, 0)
+    same((word, verdict, posted.series[:3], posted.series_len), (312, 0, (313, 312, 0), 2))
+    same((posted.base, posted.base_len), (value.base, 15))
+    renewed = on_value(posted, model.renew)[0]
+    same((renewed.base[:15], renewed.series_len), (Y[2:] + (313, 312), 0))
+    # 312 is on the limit of J. The value that is open under 1 by 313 is sound; the same value with status 0 is not.
+    opened = value_of(Chart(1, J, (313,), 1, 1))
+    same(on_value(opened, model.reanalyse, 1, 65, 63, 0), (value_of(Chart(1, J, (312,), 0, 0)), 312, True))
+    same(refusal(chart_of, opened._replace(status=0, verdict=0)), 14)
+    # Lists: a post, a post that is beyond by the next quotient, and the reanalysis with the half.
+    numbers = (1, 1, 65, 63, 0, 1, 1, 650000001, 630000000, 0, 2, 1, 65, 63, 0)
+    same(run_list(built, (1, J), numbers, (7,) * 9),
+         ("done", (1, 312, 0, 1, 313, 1, 2, 312, 1), Chart(1, J, (312, 312), 0, 0)))
+    same(run_list(model.read, (model.stored_form(Chart(1, J, (313,), 1, 1)),), numbers[10:], (7,) * 3),
+         ("done", (2, 312, 1), Chart(1, J, (312,), 0, 0)))
+    same(run_list(built, (2, A), (1, 2, 200006, 100000, 0, 1, 2, 200005, 100000, 0), (7,) * 6),
+         ("done", (0, 7, 0, 1, 20000, 1), Chart(2, A, (20000,), 1, 1)))
+    # Lent bytes: 39 01 is 313 and stays, 38 01 is 312 and is added.
+    form = bytes.fromhex("0800 0100 0100 0000 0000 2000 0200" + "c800" * 7 + "9001" * 7 + "2c01" + "0400 0300 3901")
+    lent = lent_chart(form)
+    same(lent.check(), ())
+    same(lent.form(), form)
+    same(lent.post(1, 65, 63, 0), (312, 0))
+    same(lent.form(), form[:44] + bytes.fromhex("0600 0300 3901 3801"))
+    same(lent.lines(3), (76800, 128000, 153600))
+    same(lent_chart(model.stored_form(Chart(3, (-1,) * 7 + (0,) * 8, (), 0, 0))).lines(5)[0], -120)
+    # The lines of the calls.
+    made = make_calls.files()[make_calls.PATH].decode("ascii")
+    for line in ("word 1 65 63 0 = 0 312", "word 3 0 1 32 = 0 -312", "word 3 0 1 20000 = 0 0",
+                 "word 3 0 3 20000 = 0 -2", "word 2 1 20000 0 = 0 0", "word 2 627 20000 0 = 0 314",
+                 "word 2 625 20000 0 = 0 312", "word 3 200004 0 100000 = 0 20000", "word 3 200005 0 100000 = 0 20000",
+                 "word 3 0 200005 100000 = 0 -20000", "word 3 200006 0 100000 = 7", "word 3 0 200006 100000 = 7",
+                 "word 2 200005 100000 0 = 0 20000", "word 2 200006 100000 0 = 7", "post 2 200005 100000 0 = 0 20000 1",
+                 "post 2 200006 100000 0 = 7", "reanalyse 2 200006 100000 0 = 7"):
+        same((line, made.split("\n").count(line)), (line, 1))
+    base, wide = "7*296 7*304 300", "7*200 7*400 300"
+    for lines in (
+            "chart 1 0 0 / %s /\npost 1 65 63 0 = 0 312 0\npost 1 650000001 630000000 0 = 0 313 1\n" % base,
+            "chart 1 1 1 / %s / 313\ncheck = 0\npost 1 65 63 0 = 8\nreanalyse 1 65 63 0 = 0 312 1\n" % base,
+            "chart 1 0 0 / %s / 313\nall = 14\n" % base,
+            "chart 1 0 0 / %s / 313\ncheck = 0\npost 1 65 63 0 = 0 312 0\nform " % wide,
+            "renew = 0 1 0 / 5*200 7*400 300 313 312\n",
+            "chart 3 0 0 / 15*-313 / -313\npost 3 0 1 32 = 0 -312 1\n"):
+        same((lines, made.count(lines)), (lines, 1))
+
+
 def lent_chart(form, room=None, behind=b"\x77" * 6):
     """Lent bytes with a form at their front and some bytes after it."""
     lent = LentChart(form + behind, len(form))
@@ -375,13 +434,13 @@ def test_texts():
                 same((number, room, refusal(function, number, room)), (number, room, 15))
         for number, room in ((-1, 64), (2 ** 32, 64), (2 ** 32 + 8, 64), (8, -1), (8, 2 ** 64)):
             same(is_no_input(function, number, room), True)
-    same([interface.version(room) for room in (6, 7, 64)], ["1.1.0"] * 3)
+    same([interface.version(room) for room in (6, 7, 64)], ["1.2.0"] * 3)
     same([refusal(interface.version, room) for room in (0, 1, 4, 5, 6)], [15] * 4 + [0])
     same([is_no_input(interface.version, room) for room in (-1, 2 ** 64)], [True] * 2)
     # The header has the same version, and the rooms that are enough for everything.
     with open(os.path.join(expected.ROOT, "include", "control_chart.h"), encoding="ascii") as file:
         header = file.read()
-    same(re.findall(r'(?m)^#define CONTROL_CHART_VERSION "(.*)"$', header), ["1.1.0"])
+    same(re.findall(r'(?m)^#define CONTROL_CHART_VERSION "(.*)"$', header), ["1.2.0"])
     same((interface.TEXT_MOST, interface.FORM_MOST, interface.LINES_MOST), (64, 814, 5))
     same(max(len(text) for text in ANSWERS + VERDICTS + [OTHER_NUMBER, OTHER_VERDICT]) < 64, True)
 
@@ -395,9 +454,9 @@ def test_made_texts():
             ("verdict_text 4 39", "verdict_text 4 39 = 0 seven in a row on one side of the mean"),
             ("verdict_text 4 38", "verdict_text 4 38 = 15"),
             ("verdict_text 65537 64", "verdict_text 65537 64 = 0 no such verdict"),
-            ("version 6", "version 6 = 0 1.1.0"), ("version 5", "version 5 = 15"),
+            ("version 6", "version 6 = 0 1.2.0"), ("version 5", "version 5 = 15"),
             # A text changes nothing in the lent chart.
-            ("chart 1 0 0 / 10*0 /\nversion 64\ncheck", "chart 1 0 0 / 10*0 /\nversion 64 = 0 1.1.0\ncheck = 0")):
+            ("chart 1 0 0 / 10*0 /\nversion 64\ncheck", "chart 1 0 0 / 10*0 /\nversion 64 = 0 1.2.0\ncheck = 0")):
         same(make_calls.made(asked), wanted)
     for asked in ("refusal_text 4294967296 64", "verdict_text -1 64", "version -1", "version 6 / 6", "texts 1 64"):
         same(is_no_input(make_calls.made, asked), True)
@@ -419,7 +478,7 @@ def test_made_texts():
             answer = "0 " + text if room > len(text) else "15"
             same(line, "%s %d %d = %s" % (name, number, room, answer))
     same([line for line in made if line.startswith("version")],
-         ["version 64 = 0 1.1.0", "version 6 = 0 1.1.0", "version 5 = 15", "version 1 = 15", "version 0 = 15"])
+         ["version 64 = 0 1.2.0", "version 6 = 0 1.2.0", "version 5 = 15", "version 1 = 15", "version 0 = 15"])
     # They have a section of their own, after all other calls, and the head has a line for each of them.
     start = made.index("# ---- Texts refuse 15")
     names = {line.split()[0] for line in made[start:] if line and not line.startswith("#")}
@@ -494,8 +553,8 @@ def test_made_cases():
 
 def main():
     for test in (test_charts_handed_in, test_calls_on_values, test_refused_starts, test_writing, test_against_lines,
-                 test_lists, test_one_side_before_trend, test_order_for_c, test_calls_for_c, test_texts,
-                 test_made_texts, test_made_calls, test_made_cases):
+                 test_lists, test_one_side_before_trend, test_halves_to_even, test_order_for_c, test_calls_for_c,
+                 test_texts, test_made_texts, test_made_calls, test_made_cases):
         test()
     print("%d passed, 0 failed" % PASSED)
 

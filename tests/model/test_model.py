@@ -10,9 +10,12 @@ import io
 import os
 import re
 import tempfile
+import random
 from contextlib import redirect_stderr, redirect_stdout
+from fractions import Fraction
 from functools import lru_cache
 
+import choices
 import expected
 import make_day
 import make_vectors
@@ -25,23 +28,26 @@ from transcript import Session
 A = (9900,) * 7 + (10100,) * 7 + (10000,)
 B = (1000,) * 14
 C = (10000,) * 7 + (10001,) * 8
+J = (296,) * 7 + (304,) * 7 + (300,)
 K = (900,) * 7 + (1100,) * 7 + (1000,)
 R = (-1100,) * 7 + (-900,) * 7 + (-1000,)
+Y = (200,) * 7 + (400,) * 7 + (300,)
 Z = (1000,) * 15
 
 # Document 01, figures from the course: all cases with their commands and answers. {A}, {B} and {C} stand for words.
-# Document 02, Q-1: the seven posts from 10010 to 10070 end in 4.
+# Document 02, Q-1: the seven posts from 10010 to 10070 end in 4. Document 02, Q-3: 65 and 63 give 312, the spike 0, 1,
+# 32 gives -312, and 200005 over 100000 gives 20000.
 FIGURES = """\
 # duplicate X1 1, X2 2
 word 1 1 2 0 = word 6667
 # duplicate X1 65, X2 63
-word 1 65 63 0 = word 313
+word 1 65 63 0 = word 312
 # spike SSR 0, SR 1, SA 32
-word 3 0 1 32 = word -313
+word 3 0 1 32 = word -312
 # spike SSR 200004, SR 0, SA 100000
 word 3 200004 0 100000 = word 20000
 # spike SSR 200005, SR 0, SA 100000
-word 3 200005 0 100000 = refused 7
+word 3 200005 0 100000 = word 20000
 # A, kind 2
 build 2 {A} = built rounds 1 removed 0
 show = chart kind 2 status 0 verdict 0 base 15 {A} series 0
@@ -123,7 +129,7 @@ ABOVE_AFTER_HEAD = bytes.fromhex("20000200" + "ac26" * 7 + "7427" * 7 + "1027"
 
 # The command language: each kind of answer with its exit status.
 STATUSES = {
-    0: ("word 6667", "word -313", "built rounds 1 removed 0", "word 10250 verdict 0", "word -1 verdict 0",
+    0: ("word 6667", "word -312", "built rounds 1 removed 0", "word 10250 verdict 0", "word -1 verdict 0",
         "word 9800 passed", "word -9800 passed", "corrected", "renewed rounds 2 removed 1", "read", "bytes 48 0800",
         "lines 1000.00000000 1000.00000000 1000.00000000",
         "chart kind 0 status 0 verdict 0 base 0 series 0", "chart kind 2 status 1 verdict 4 base 0 series 0"),
@@ -180,7 +186,7 @@ EXAMPLES = {
 READINGS = {
     1: {"duplicate X1 1, X2 2, third number -5": "word 6667", "check X 1000000001, A 0": "refused 5"},
     2: {"duplicate X1 0, X2 0": "refused 6", "check X 0, A 0": "refused 6", "spike SSR 5, SR 5, SA 0": "refused 6"},
-    3: {"spike SSR 0, SR 1, SA 20000": "word -1", "spike SSR 1, SR 0, SA 20000": "word 1"},
+    # Document 02, Q-3, overrules reading 3. Reading 5 of document 02 has its cases.
     4: {"spike SSR 200004, SR 0, SA 100000": "word 20000", "A, post of X 20001, A 10000": "refused 7",
         "A after 10250 10301, reanalysis of X 30000, A 10000": "refused 7"},
     5: {"kind 0 (a word formed alone)": "refused 1", "kind 0, no word": "refused 1", "A, post of kind 0": "refused 4",
@@ -306,6 +312,91 @@ READINGS_02 = {
     4: {"A, series 10010 up to 10070 by tens, status 0, verdict 0": "read",
         "A, series 10110 up to 10150 by tens and 10210 10250, status 1, verdict 2": "read",
         "A, series 10110 up to 10150 by tens and 10210 10250, status 2, verdict 2": "read"},
+    5: {"duplicate X1 65, X2 63": "word 312", "spike SSR 0, SR 1, SA 32": "word -312",
+        "check X 1, A 20000": "word 0", "check X 3, A 20000": "word 2", "check X 5, A 20000": "word 2",
+        "check X 625, A 20000": "word 312", "check X 627, A 20000": "word 314",
+        "spike SSR 1, SR 0, SA 20000": "word 0", "spike SSR 3, SR 0, SA 20000": "word 2",
+        "spike SSR 5, SR 0, SA 20000": "word 2", "spike SSR 0, SR 1, SA 20000": "word 0",
+        "spike SSR 0, SR 3, SA 20000": "word -2", "spike SSR 0, SR 5, SA 20000": "word -2",
+        "spike SSR 0, SR 625, SA 20000": "word -312", "spike SSR 0, SR 627, SA 20000": "word -314",
+        "spike SSR 0, SR 1, SA 20001": "word 0", "spike SSR 1, SR 0, SA 20001": "word 0",
+        "duplicate X1 40001, X2 39999": "word 0", "duplicate X1 40003, X2 39997": "word 2",
+        "duplicate X1 39995, X2 40005": "word 2",
+        # Next to 312.5 and to 313.5.
+        "check X 31249999, A 1000000000": "word 312", "check X 31250000, A 1000000000": "word 312",
+        "check X 31250001, A 1000000000": "word 313", "check X 31349999, A 1000000000": "word 313",
+        "check X 31350000, A 1000000000": "word 314", "check X 31350001, A 1000000000": "word 314",
+        "duplicate X1 649999999, X2 630000000": "word 312", "duplicate X1 650000000, X2 630000000": "word 312",
+        "duplicate X1 650000001, X2 630000000": "word 313",
+        "spike SSR 0, SR 31249999, SA 1000000000": "word -312", "spike SSR 0, SR 31250000, SA 1000000000": "word -312",
+        "spike SSR 0, SR 31250001, SA 1000000000": "word -313", "spike SSR 0, SR 31349999, SA 1000000000": "word -313",
+        "spike SSR 0, SR 31350000, SA 1000000000": "word -314", "spike SSR 0, SR 31350001, SA 1000000000": "word -314",
+        # 312.5, 937.5, 1562.5 and 2187.5, from odd and from even readings.
+        "check X 1, A 32": "word 312", "check X 2, A 64": "word 312", "check X 3, A 32": "word 938",
+        "check X 6, A 64": "word 938", "check X 5, A 32": "word 1562", "check X 7, A 32": "word 2188",
+        "duplicate X1 130, X2 126": "word 312", "duplicate X1 67, X2 61": "word 938",
+        "duplicate X1 134, X2 122": "word 938", "spike SSR 0, SR 2, SA 64": "word -312",
+        "spike SSR 0, SR 3, SA 32": "word -938",
+        # Posts and reanalyses are compared with the new words.
+        "J, post of X1 65, X2 63": "word 312 verdict 0", "J, post of X1 650000001, X2 630000000": "word 313 verdict 1",
+        "L, post of SSR 0, SR 1, SA 32": "word -312 verdict 0",
+        "L, post of SSR 0, SR 31250001, SA 1000000000": "word -313 verdict 1",
+        "U, post of X 1, A 32": "word 312 verdict 0", "U, post of X 31250001, A 1000000000": "word 313 verdict 1",
+        "V, post of X 577, A 20000": "word 288 verdict 1", "U after 309, post of X 617, A 20000": "word 308 verdict 0",
+        "V after 292, post of X 585, A 20000": "word 292 verdict 2",
+        "U after 297 up to 302, post of X 605, A 20000": "word 302 verdict 0",
+        "U after 297 up to 302, post of X 607, A 20000": "word 304 verdict 3",
+        "U after 301 six times, post of X 601, A 20000": "word 300 verdict 0",
+        "V after 300 six times, post of X 601, A 20000": "word 300 verdict 4",
+        "J after 313, reanalysis of X1 65, X2 63": "word 312 passed",
+        "J after 313, reanalysis of X1 650000001, X2 630000000": "word 313 failed",
+        "L after -313, reanalysis of SSR 0, SR 1, SA 32": "word -312 passed",
+        "V after 314, reanalysis of X 577, A 20000": "word 288 failed",
+        "U after 309 309, reanalysis of X 617, A 20000": "word 308 passed",
+        "V after 310 310, reanalysis of X 585, A 20000": "word 292 failed",
+        "U after 299 up to 303 and 305 306, reanalysis of X 609, A 20000": "word 304 passed",
+        "V after 298 up to 304, reanalysis of X 609, A 20000": "word 304 passed",
+        "V after 306 seven times with status 1, reanalysis of X 609, A 20000": "word 304 passed"},
+    6: {"spike SSR 200005, SR 0, SA 100000": "word 20000", "spike SSR 0, SR 200005, SA 100000": "word -20000",
+        "spike SSR 200006, SR 0, SA 100000": "refused 7", "spike SSR 0, SR 200006, SA 100000": "refused 7",
+        "spike SSR 200015, SR 0, SA 100000": "refused 7", "spike SSR 0, SR 200015, SA 100000": "refused 7",
+        "spike SSR 0, SR 199995, SA 100000": "word -20000", "check X 199995, A 100000": "word 20000",
+        "check X 200005, A 100000": "word 20000", "check X 200006, A 100000": "refused 7",
+        "check X 200015, A 100000": "refused 7", "duplicate X1 79999, X2 1": "word 20000",
+        "A, post of X 200005, A 100000": "word 20000 verdict 1", "A, post of X 200006, A 100000": "refused 7",
+        "A after 10250 10301, reanalysis of X 200005, A 100000": "word 20000 failed",
+        "A after 10250 10301, reanalysis of X 200006, A 100000": "refused 7"},
+    7: {"-1 seven times and 0 eight times, kind 3, lines":
+            "lines -0.46875000 -1.49609375 0.56250000 -2.01562500 1.08203125",
+        "J, lines": "lines 300.00000000 308.00000000 312.00000000",
+        "L, lines": "lines -300.00000000 -308.00000000 -292.00000000 -312.00000000 -288.00000000",
+        "Y, series 313, read": "read",
+        "Y after that, post of X1 65, X2 63 (that: series 313 from store)": "word 312 verdict 0",
+        # c8 00 is 200, 90 01 is 400, 2c 01 is 300, 39 01 is 313, 38 01 is 312.
+        "Y after that, write (that: 313 from store, post of 312)":
+            "bytes 52 0800010001000000000020000200" + "c800" * 7 + "9001" * 7 + "2c01" + "0600030039013801",
+        "Y after that, renewal (that: 313 from store, post of 312)": "renewed rounds 1 removed 0",
+        "Y after that, lines (that: 313 from store, post of 312, renewal)":
+            "lines 315.00000000 497.78515625 589.17578125",
+        "-313 fifteen times and a series of -313, kind 3, read": "read",
+        "-313 fifteen times after that, post of SSR 0, SR 1, SA 32 (that: series -313 from store)":
+            "word -312 verdict 1",
+        "-313 fifteen times after that: -313 (that: series -313 from store, post of -312)": "word -313 passed",
+        "J, series 313, status 0, verdict 0": "refused 14", "J, series 313, status 1, verdict 1": "read",
+        "J, series 313, status 2, verdict 1": "read"},
+}
+
+# Document 02, Q-3: what is shown of a chart after a case, from its series or the end of its base on.
+SHOWN_AFTER = {
+    "Y, series 313, read": "300 series 1 313",
+    "Y after that, post of X1 65, X2 63 (that: series 313 from store)": "300 series 2 313 312",
+    "Y after that, renewal (that: 313 from store, post of 312)": "300 313 312 series 0",
+    "-313 fifteen times and a series of -313, kind 3, read": "-313 series 1 -313",
+    "-313 fifteen times after that, post of SSR 0, SR 1, SA 32 (that: series -313 from store)":
+        "-313 series 2 -313 -312",
+    "J, series 313, status 1, verdict 1": "300 series 1 313",
+    "J after 313, reanalysis of X1 65, X2 63": "300 series 1 312",
+    "J after 313, reanalysis of X1 650000001, X2 630000000": "300 series 1 313",
 }
 
 # Reading 4 of document 02: series stored open under 3 and under 4, with either status, and the verdict that is read.
@@ -410,24 +501,127 @@ def outcome(chart, word):
 
 
 def test_words():
-    """Figures from the course; readings 1 to 4."""
+    """Figures from the course; readings 1, 2 and 4; document 02, Q-3, and readings 5 and 6 of document 02."""
     same(model.word_alone(1, 1, 2, 0), 6667)
-    same(model.word_alone(1, 65, 63, 0), 313)
-    same(model.word_alone(3, 0, 1, 32), -313)
+    same(model.word_alone(1, 65, 63, 0), 312)
+    same(model.word_alone(3, 0, 1, 32), -312)
     same(model.word_alone(3, 200004, 0, 100000), 20000)
-    same(refusal(model.word_alone, 3, 200005, 0, 100000), 7)
+    same(model.word_alone(3, 200005, 0, 100000), 20000)
+    same(model.word_alone(3, 0, 200005, 100000), -20000)
+    same(model.word_alone(2, 200005, 100000, 0), 20000)
+    for a, b in ((200006, 0), (0, 200006), (200015, 0), (0, 200015)):
+        same(refusal(model.word_alone, 3, a, b, 100000), 7)
+    same(refusal(model.word_alone, 2, 200006, 100000, 0), 7)
     same(refusal(model.word_alone, 3, 300, 0, 100), 7)
     same(model.word_alone(1, 1, 2, -5), 6667)
     same(refusal(model.word_alone, 2, 1000000001, 0, 0), 5)
     same(refusal(model.word_alone, 1, 0, 0, 0), 6)
     same(refusal(model.word_alone, 2, 0, 0, 0), 6)
     same(refusal(model.word_alone, 3, 5, 5, 0), 6)
-    same(model.word_alone(3, 0, 1, 20000), -1)
-    same(model.word_alone(3, 1, 0, 20000), 1)
+    same(model.word_alone(2, 1, 20000, 0), 0)
+    same(model.word_alone(3, 0, 1, 20000), 0)
+    same(model.word_alone(3, 1, 0, 20000), 0)
+    same(model.word_alone(3, 0, 3, 20000), -2)
+    same(model.word_alone(3, 3, 0, 20000), 2)
+    same(model.word_alone(2, 625, 20000, 0), 312)
+    same(model.word_alone(2, 627, 20000, 0), 314)
+    same(answers_of(b"word 3 0 1 20000"), [b"word 0"])
     same(model.word_alone(3, 0, 1, 20001), 0)
+    same(model.word_alone(3, 0, 1, 19999), -1)
     same(refusal(model.word_alone, 4, 0, 0, 0), 1)
     same(refusal(model.word_alone, 1, 1000000001, 0, 0), 5)
     same(model.word_alone(1, 1000000000, 0, 0), 20000)
+
+
+def away_from_zero(numerator, divisor):
+    """Document 01 before document 02, Q-3: the nearest whole number, halves away from zero."""
+    size = (2 * abs(numerator) + divisor) // (2 * divisor)
+    return -size if numerator < 0 else size
+
+
+def quotients():
+    """Numerators and divisors: a grid on both sides of 0, and halves of every size with what is next to them."""
+    yield from ((numerator, divisor) for divisor in range(1, 65) for numerator in range(-200, 201))
+    for divisor in (2, 32, 100000, 40000, 999999998, 1000000000, 2000000000):
+        for twice in (1, 3, 5, 623, 625, 627, 19999, 20001, 39997, 39999, 40001, 40003, 40005):
+            for off in (-1, 0, 1):
+                for way in (1, -1):
+                    yield way * (twice * divisor // 2 + off), divisor
+
+
+def exactly(kind, a, b, c):
+    """From readings to words: the quotient as a fraction."""
+    if kind == 1:
+        return Fraction(20000 * abs(a - b), a + b)
+    return Fraction(10000 * a, b) if kind == 2 else Fraction(10000 * (a - b), c)
+
+
+def test_rounding():
+    """Document 02, Q-3: the rounding against that of Python's fractions, and against the rule before."""
+    pairs = list(quotients())
+    # Python rounds a fraction to the nearest whole number, and a half to the even one.
+    same([pair for pair in pairs if model.nearest(*pair) != round(Fraction(*pair))], [])
+    same([pair for pair in pairs if model.nearest(-pair[0], pair[1]) != -model.nearest(*pair)], [])
+    # The rule before differs just where a half has an even whole part. There its word is one farther from 0.
+    differing = 0
+    for numerator, divisor in pairs:
+        way = (numerator > 0) - (numerator < 0)
+        whole = abs(numerator) // divisor
+        halfway = abs(Fraction(numerator, divisor)) - whole == Fraction(1, 2)
+        wanted = way if halfway and whole % 2 == 0 else 0
+        differing += wanted != 0
+        assert away_from_zero(numerator, divisor) - model.nearest(numerator, divisor) == wanted, (numerator, divisor)
+    same(differing > 300, True)
+    # Words of readings: formed in the same way, and the range tested after rounding.
+    for kind, readings in ((1, [(a, b, 0) for a in range(66) for b in range(1, 130)]),
+                           (2, [(a, b, 0) for a in range(130) for b in range(1, 66)]),
+                           (3, [(a, b, c) for a in range(12) for b in range(12) for c in (1, 3, 32, 64, 4000, 20000)])):
+        for a, b, c in readings:
+            wanted = round(exactly(kind, a, b, c))
+            assert choices.formed(kind, (a, b, c)) == (wanted if abs(wanted) <= 20000 else None), (kind, a, b, c)
+        same(sum(choices.half(kind, *numbers) is not None for numbers in readings) > 20, True)
+
+
+def test_chosen_readings():
+    """The readings that are chosen for a word give it. For an even word many are halves; for an odd word none is."""
+    rng = random.Random(3)
+    for kind, least in ((1, 0), (2, 0), (3, -20000)):
+        met = {0: 0, 1: 0}
+        for word in (least, least + 1, 20000, 19999, *(rng.randint(least, 20000) for _ in range(400))):
+            numbers = choices.rounded(rng, kind, word)
+            assert choices.formed(kind, numbers) == word, (kind, word, numbers)
+            met[word % 2] += choices.half(kind, *numbers) is not None
+        same((kind, met[0] > 40, met[1]), (kind, True, 0))
+        for twice in (1, 3, 625, 39999) + ((-1, -3, -625, -40001) if kind == 3 else ()):
+            for times in (1, 2, 7):
+                numbers = choices.halfway(kind, twice, times)
+                same((numbers, exactly(kind, *numbers)), (numbers, Fraction(twice, 2)))
+                same((numbers, max(numbers[:1 if kind == 2 else 2]) % 2), (numbers, times % 2))
+
+
+def test_stored_words():
+    """Document 02, Q-3: words in stored charts are left alone; reading 7 of document 02."""
+    # 65 and 63 gave 313 before, and give 312 now.
+    stored = Chart(1, Y, (313, 313), 0, 0)
+    form = model.stored_form(stored)
+    same(model.read(form), stored)
+    same(model.write(model.read(form)), form)
+    chart, word, verdict = model.post(model.read(form), 1, 65, 63, 0)
+    same((word, verdict, chart.series, chart.base), (312, 0, (313, 313, 312), Y))
+    same(model.renew(chart)[0].base, Y[3:] + (313, 313, 312))
+    # The limit of J is 312. The verdict that 313 opened stays open until the new word passes.
+    opened = Chart(1, J, (313,), 1, 1)
+    same(model.read(model.stored_form(opened)), opened)
+    same(refusal(model.post, opened, 1, 65, 63, 0), 8)
+    same(model.reanalyse(opened, 1, 65, 63, 0), (Chart(1, J, (312,), 0, 0), 312, True))
+    same(model.post(model.build(1, J)[0], 1, 65, 63, 0)[1:], (312, 0))
+    # A base of old words: the limits are those of the words in it.
+    for kind, words, readings, wanted in ((3, (-313,) * 15, (0, 1, 32), (-312, 1)),
+                                          (2, (313,) * 15, (1, 32, 0), (312, 1)),
+                                          (1, (313,) * 15, (65, 63, 0), (312, 0))):
+        chart = model.read(model.stored_form(Chart(kind, words, (), 0, 0)))
+        same(model.lines(chart)[0], 256 * words[0])
+        same(model.post(chart, kind, *readings)[1:], wanted)
 
 
 def test_building():
@@ -602,10 +796,12 @@ def test_stored_form():
 
 
 def test_lines():
-    """Lines for the plotter; readings 26 to 28, and each k against its definition."""
+    """Lines for the plotter; readings 26 to 28; reading 7 of document 02; and each k against its definition."""
     same(sorted(model.lines(model.build(2, A)[0])), [256 * x for x in (9700, 9800, 10000, 10200, 10300)])
     same(sorted(model.lines(model.build(2, C)[0])), [2559740, 2559873, 2560136, 2560400, 2560533])
+    # Reading 7 of document 02: the mean is about -119.47 / 256, and its line is -120 / 256.
     same(model.lines(model.build(3, (-1,) * 7 + (0,) * 8)[0])[0], -120)
+    same(model.lines(model.build(3, (1,) * 7 + (0,) * 8)[0])[0], 119)
     zero = (0, 0, 1) + (2,) * 6 + (3,) * 5 + (4,) * 5
     same(model.lines(model.build(3, zero)[0])[1], 0)
     wide = (-20000,) * 16 + (20000,) * 16
@@ -758,6 +954,12 @@ def test_files():
         same(on_file(held, b"correct"), wanted)
     held = bytes.fromhex("08000100020002000400") + ABOVE_AFTER_HEAD
     same(on_file(held, b"correct"), (held[:6] + b"\1" + held[7:], b"corrected", 0, False))
+    # Document 02, Q-3: a file with 313 from 65 and 63 (39 01) keeps it; a new post of them adds 312 (38 01).
+    base = "20000200" + "c800" * 7 + "9001" * 7 + "2c01"
+    held = bytes.fromhex("08000100010000000000" + base + "040003003901")
+    same(on_file(held, b"show")[1].split()[-3:], [b"series", b"1", b"313"])
+    same(on_file(held, b"post 1 65 63 0"), (bytes.fromhex("08000100010000000000" + base + "0600030039013801"),
+                                            b"word 312 verdict 0", 0, False))
     passed = on_file(A_OUT, b"reanalyse 2 10300 10000 0")
     same((passed[0].hex(), passed[1:]), (A_FORM[:44].hex() + "040003003c28", (b"word 10300 passed", 0, False)))
     for line, wanted in ((build, True), (b" post", True), (b"reanalyse x", True), (b"correct", True), (b"renew", True),
@@ -866,20 +1068,22 @@ def test_block():
     labels = [text for text, steps in texts if steps]
     headings = [text for text, steps in texts if not steps]
     same([label for label in labels if labels.count(label) > 1], [])
-    same(len(labels), 411)
+    same(len(labels), 501)
     found = {int(number) for heading in headings
              for numbers in re.findall(r"READINGS (\d+(?:, \d+)*)", heading) for number in numbers.split(", ")}
-    # 13, 23 and 29 to 31 are about definitions, chart values handed in, the type of the lines, and lists.
-    same(sorted(found), [number for number in range(1, 33) if number not in (13, 23, 29, 30, 31)])
+    # 13, 23 and 29 to 31 are about definitions, chart values handed in, the type of the lines, and lists. 3 is about
+    # halves, which document 02, Q-3, rounds in another way.
+    same(sorted(found), [number for number in range(1, 33) if number not in (3, 13, 23, 29, 30, 31)])
     same(sorted(READINGS), sorted(found))
     found = {int(number) for heading in headings
              for numbers in re.findall(r"READINGS-02 (\d+(?:, \d+)*)", heading) for number in numbers.split(", ")}
-    same((sorted(found), sorted(READINGS_02)), ([1, 2, 3, 4], [1, 2, 3, 4]))
-    same(any(heading.startswith("document 02, Q-1: ") for heading in headings), True)
+    same((sorted(found), sorted(READINGS_02)), ([1, 2, 3, 4, 5, 6, 7], [1, 2, 3, 4, 5, 6, 7]))
+    for request in ("document 02, Q-1: ", "document 02, Q-3: "):
+        same((request, any(heading.startswith(request) for heading in headings)), (request, True))
 
 
 def test_outcomes():
-    """The made commands: every verdict and trend occurs for each kind, and every way in which a reanalysis ends."""
+    """The made commands: for each kind every verdict and trend, every way in which a reanalysis ends, and halves."""
     table = made_record().table
     wanted = ["post as word 366, verdict %d" % verdict for verdict in range(5)]
     for kind in (1, 2, 3):
@@ -899,6 +1103,10 @@ def test_outcomes():
                    for verdict in (1, 2)]
     wanted += ["read accepted status %d verdict %d" % (status, verdict)
                for status in (1, 2) for verdict in (1, 2, 3, 4)]
+    # Document 02, Q-3: halves as words, posts and reanalyses.
+    wanted += ["%s kind %d halfway, %s 0, whole part %s" % (command, kind, side, part)
+               for command in ("word", "post", "reanalyse") for part in ("even", "odd")
+               for kind, side in ((1, "above"), (2, "above"), (3, "above"), (3, "below"))]
     same([name for name in wanted if name not in table], [])
     # A trend on one side is never 3, save for kind 1, and one across the mean is never 4.
     never = [TREND_ON_ONE_SIDE.format(kind=kind, verdict=3, way=way, side=side)
@@ -906,6 +1114,36 @@ def test_outcomes():
     never += [TREND_ON_ONE_SIDE.format(kind=kind, verdict=4, way=way, side="across")
               for kind in (1, 2, 3) for way in ("rising", "falling")]
     same([name for name in never if name in table], [])
+
+
+def test_made_halves():
+    """Document 02, Q-3, in the made words: halves of each sort, what is next to them, and both ends of the range."""
+    asked = [line.split() for line in made_files()["crates/control_chart/stdin"].decode("latin-1").split("\n")]
+    words = {tuple(map(int, fields[1:])) for fields in asked if fields[:1] == ["word"] and len(fields) == 5
+             and all(re.fullmatch("-?[0-9]{1,18}", field) for field in fields[1:])}
+    sorts, near = set(), set()
+    for kind, a, b, c in words:
+        if choices.formed(kind, (a, b, c)) is None:
+            continue
+        if choices.half(kind, a, b, c):
+            reading = a if kind == 2 else abs(a - b)
+            sorts.add((kind, choices.half(kind, a, b, c), "odd" if reading // (2 if kind == 1 else 1) % 2 else "even"))
+            # The quotients just below and above: the greater reading is changed by one.
+            beside = [(a + off, b) if kind == 2 or a > b else (a, b + off) for off in (-1, 1)]
+            if all((kind, *pair, c) in words for pair in beside):
+                near.add((kind, choices.half(kind, a, b, c)))
+    sides = [(kind, "%s 0, whole part %s" % (side, part)) for part in ("even", "odd")
+             for kind, side in ((1, "above"), (2, "above"), (3, "above"), (3, "below"))]
+    same(sorted(sorts), sorted((*place, reading) for place in sides for reading in ("even", "odd")))
+    same(sorted(near), sorted(sides))
+    # Both ends: 0.5, 1.5 and 2.5, then 19999.5, 20000.5 and 20001.5.
+    for numbers, wanted in (((1, 40001, 39999, 0), 0), ((1, 40003, 39997, 0), 2), ((1, 8001, 7999, 0), 2),
+                            ((1, 79999, 1, 0), 20000), ((2, 1, 20000, 0), 0), ((2, 3, 20000, 0), 2),
+                            ((2, 1, 4000, 0), 2), ((2, 39999, 20000, 0), 20000), ((2, 40001, 20000, 0), 20000),
+                            ((2, 40003, 20000, 0), None), ((3, 0, 1, 20000), 0), ((3, 0, 1, 4000), -2),
+                            ((3, 0, 40001, 20000), -20000), ((3, 0, 40003, 20000), None),
+                            ((3, 40001, 0, 20000), 20000), ((3, 40003, 0, 20000), None)):
+        same((numbers, numbers in words, choices.formed(numbers[0], numbers[1:])), (numbers, True, wanted))
 
 
 def test_figures():
@@ -929,6 +1167,9 @@ def test_examples():
     for number, answers in READINGS_02.items():
         for label, answer in answers.items():
             same((number, label, last_answer(block[label])), (number, label, answer))
+    for label, shown in SHOWN_AFTER.items():
+        command, answer = block[label][-1]
+        same((label, command, answer.endswith(" " + shown)), (label, "show", True))
     for front, right in STORED_OPEN.items():
         for status in (1, 2):
             for verdict in (3, 4):
@@ -946,7 +1187,10 @@ def test_examples():
                                    ("A after 10110 up to 10170: 10159", 2, 4),
                                    ("A after 10110 up to 10170, correction", 1, 4),
                                    ("A after that: 10159 (that: 10110 up to 10170, correction)", 2, 4),
-                                   ("A after that: 10099 (that: 10110 up to 10170, correction)", 0, 0)):
+                                   ("A after that: 10099 (that: 10110 up to 10170, correction)", 0, 0),
+                                   # Document 02, Q-3: 7 leaves the status, and 20000 fails.
+                                   ("A after 10250 10301, reanalysis of X 200005, A 100000", 2, 1),
+                                   ("A after 10250 10301, reanalysis of X 200006, A 100000", 1, 1)):
         same(block[label][-1][1].split()[3:7], ["status", str(status), "verdict", str(verdict)])
 
 
@@ -995,7 +1239,7 @@ def test_transcript():
             ("", "", 0), ("# x\n\n", "", 0), ("show\n", "chart kind 0 status 0 verdict 0 base 0 series 0\n", 0),
             ("word 2 990 1000 0\nword 2 1010 1000 0\n", "word 9900\nword 10100\n", 0),
             ("word 1 65 63 0\npost 2 1e3 1000 0\n",
-             "word 313\nerror: not a number; numbers are whole and in decimal, as 10250 or -313\n", 3),
+             "word 312\nerror: not a number; numbers are whole and in decimal, as 10250 or -313\n", 3),
             ("post 2 1 1 0", "refused 14\n", 2)):
         same((session.input_commands(text), session.status), (wanted, status_wanted))
     same(session.files, {"lead.chart": A_OUT, "zinc.chart": zinc})
@@ -1058,10 +1302,10 @@ def test_expected():
 
 
 def main():
-    for test in (test_words, test_building, test_verdicts, test_one_side_before_trend, test_reanalysis, test_order,
-                 test_stored_form, test_lines, test_commands, test_ends_and_fronts, test_statuses, test_files,
-                 test_file_cases, test_made, test_block, test_outcomes, test_figures, test_examples, test_day,
-                 test_transcript, test_expected):
+    for test in (test_words, test_rounding, test_chosen_readings, test_stored_words, test_building, test_verdicts,
+                 test_one_side_before_trend, test_reanalysis, test_order, test_stored_form, test_lines, test_commands,
+                 test_ends_and_fronts, test_statuses, test_files, test_file_cases, test_made, test_block, test_outcomes,
+                 test_made_halves, test_figures, test_examples, test_day, test_transcript, test_expected):
         test()
     print("%d passed, 0 failed" % PASSED)
 

@@ -7,6 +7,8 @@ pub mod Choice
 pub mod AllOf
 pub mod Kind
 pub mod Word
+pub mod FormerRounding
+pub mod Halfway
 pub mod Without
 pub mod Limits
 pub mod PassesBetween

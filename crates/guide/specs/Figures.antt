@@ -102,10 +102,12 @@ sevenInTens w = w ∷ (w + 10) ∷ (w + 20) ∷ (w + 30) ∷ (w + 40) ∷ (w + 5
 
 unfoldable pub table : List Row
 table =
-    -- "X1 1, X2 2: 6667." "X1 65, X2 63: 313." "SSR 0, SR 1, SA 32: −313."
+    -- "X1 1, X2 2: 6667." Document 02, Q-3: "65 and 63 give 312, the spike 0, 1, 32 gives −312, and 200005 over 100000 gives 20000". Before
+    -- it they were 313, −313 and refusal 7
     record { defined = wordNumbers (word.wordAlone 1 (pos 1) (pos 2) (pos 0)); figure = pos 6667 ∷ [] }
-    ∷ record { defined = wordNumbers (word.wordAlone 1 (pos 65) (pos 63) (pos 0)); figure = pos 313 ∷ [] }
-    ∷ record { defined = wordNumbers (word.wordAlone 3 (pos 0) (pos 1) (pos 32)); figure = negsuc 312 ∷ [] }
+    ∷ record { defined = wordNumbers (word.wordAlone 1 (pos 65) (pos 63) (pos 0)); figure = pos 312 ∷ [] }
+    ∷ record { defined = wordNumbers (word.wordAlone 3 (pos 0) (pos 1) (pos 32)); figure = negsuc 311 ∷ [] }
+    ∷ record { defined = wordNumbers (word.wordAlone 3 (pos 200005) (pos 0) (pos 100000)); figure = pos 20000 ∷ [] }
     -- "A: mean 10000, S 100": T is n·10000, and V is n(n − 1)·100²
     ∷ record { defined = sumsNumbers (sumsOf baseA); figure = pos 15 ∷ pos (15 * 10000) ∷ pos (15 * 14 * 100 * 100) ∷ [] }
     -- "limits 9700, 9800, 10200, 10300": the lower and the upper control limit, the lower and the upper warning limit. Then `beyondControl`

@@ -1,11 +1,12 @@
--- Document 01, "From readings to words": the word that a kind and three numbers give, or the number of the refusal.
+-- Document 01, "From readings to words", with the rounding of document 02, Q-3: the word that a kind and three numbers give, or the number
+-- of the refusal.
 use mathlib.Core.Path.{_≡_}
 use mathlib.Core.Bool.{Bool, _&&_, _||_, not}
-use Prim.Native.Nat.{ℕ, suc, _+_, _*_, _/_, _<_, _≤_}
-use lib.Dec.{eqb}
+use Prim.Native.Nat.{ℕ, suc, _+_, _*_, _/_, _%_, _≤_}
+use lib.Dec.{eqb, ltb}
 use lib.IntN.{ℤ, pos, negsuc, natAbs, negℤ, _+ℤ_, _-ℤ_, _*ℤ_}
 use lib.Signed.{leZ}
-use Rattle.guide.specs.Choice.{require}
+use Rattle.guide.specs.Choice.{require, choose}
 use Rattle.guide.specs.Kind.{isKind, byKind, ignoresThird, inRange}
 
 -- "Readings are whole numbers from 0 to 1,000,000,000"
@@ -31,22 +32,27 @@ numerator kind a b c =
 unfoldable pub divisor : ℕ → ℤ → ℤ → ℤ → ℤ
 divisor kind a b c = byKind kind (a +ℤ b) b c
 
--- "The quotient goes to the nearest whole number, halves away from zero": `nearestNatural` rounds n / d for a natural number n, and
--- `nearest` rounds a negative number by its absolute value. For d above 0 `proofs/Word` proves that the result is the nearest
--- (`nearest-is`), and that no other number is (`nearest-only`)
+-- "The quotient goes to the nearest whole number". Document 01 goes on "halves away from zero". In its place stands document 02, Q-3: "A
+-- quotient exactly halfway between two words now goes to the even one." `nearestNatural` rounds n / d for natural numbers, d above 0: the
+-- remainder is less than half of d, or more than half, or exactly half. `nearest` rounds a negative number by its absolute value
 unfoldable pub nearestNatural : ℕ → ℕ → ℕ
-nearestNatural n d = (2 * n + d) / (2 * d)
+nearestNatural n d =
+    choose (ltb (2 * (n % d)) d) (n / d)
+    (choose (ltb d (2 * (n % d))) (n / d + 1)
+    (choose (eqb (n / d % 2) 0) (n / d) (n / d + 1)))
 
 unfoldable pub nearest : ℤ → ℕ → ℤ
 nearest (pos n) d = pos (nearestNatural n d)
 nearest (negsuc n) d = negℤ (pos (nearestNatural (suc n) d))
 
--- r is z / d rounded: d·r is at most d / 2 away from z. If it is exactly d / 2 away, it is farther from zero than z
+-- r is z / d rounded, for d above 0: d·r is at most d / 2 away from z. If it is exactly d / 2 away, r is even. `proofs/Word` proves that
+-- `nearest z d` is such a number (`nearest-is`), and that there is no other (`nearest-only`)
 pub record IsNearest (z : ℤ) (d : ℕ) (r : ℤ) : Type 0 where
   pub close : 2 * natAbs (pos d *ℤ r -ℤ z) ≤ d
-  pub away : 2 * natAbs (pos d *ℤ r -ℤ z) ≡ d → natAbs z < d * natAbs r
+  pub even : 2 * natAbs (pos d *ℤ r -ℤ z) ≡ d → natAbs r % 2 ≡ 0
 
--- the rounded quotient. Readings are not negative, so the divisor is its own absolute value. A divisor of 0 is refused before
+-- the rounded quotient. Readings are not negative, so the divisor is its own absolute value. `fromReading` refuses a divisor of 0
+-- first
 unfoldable pub roundedQuotient : ℕ → ℤ → ℤ → ℤ → ℤ
 roundedQuotient kind a b c = nearest (numerator kind a b c) (natAbs (divisor kind a b c))
 

@@ -39,4 +39,4 @@ verdictMeaning n =
 
 -- the version of the library and the program
 unfoldable pub version : List ℕ
-version = ascii "1.1.0"
+version = ascii "1.2.0"

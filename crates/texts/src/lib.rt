@@ -49,5 +49,5 @@ pub fn put_verdict_meaning(out: &mut [u8], number: u32) -> usize
 pub fn put_version(out: &mut [u8]) -> usize
     ensures { λ r. ⌜ Puts (now (out .entry)) 0 version (now (out .exit)) r ⌝ }
 {
-    put_text(out, 0, b"1.1.0")
+    put_text(out, 0, b"1.2.0")
 }

@@ -161,7 +161,7 @@ fn distance_of(x: u64, y: u64) -> u64
     if x < y { y - x } else { x - y }
 }
 
-// The nearest whole number, halves away from zero.
+// The nearest whole number, halves to the even one.
 fn nearest(q: Quotient) -> i64
     requires { ⌜ (0 < q .divisor) × (q .numerator < 2 ^ 63) ⌝ }
     ensures { λ r. ⌜ r ≡ guide.nearest (signed (q .negative) (q .numerator)) (q .divisor) ⌝ }
@@ -170,16 +170,20 @@ fn nearest(q: Quotient) -> i64
     if q.negative { -w } else { w }
 }
 
-// The whole quotient, or one more if the remainder is half of the divisor or more.
+// The whole quotient if the remainder is less than half of the divisor, one more if it is more than half, the even one of the two if it is
+// exactly half. What is left is compared with what is lacking to the next multiple, since twice the remainder may not fit.
 fn nearest_natural(numerator: u64, divisor: u64) -> u64
     requires { ⌜ 0 < divisor ⌝ }
     ensures { λ r. ⌜ (r ≡ nearestNatural numerator divisor) × (r ≤ numerator) ⌝ }
 {
     let whole = numerator / divisor;
     let left = numerator % divisor;
-    if divisor - left <= left {
-        whole + 1
-    } else {
-        whole
+    let lacking = divisor - left;
+    if left < lacking {
+        return whole;
     }
+    if lacking < left {
+        return whole + 1;
+    }
+    if whole % 2 == 0 { whole } else { whole + 1 }
 }
