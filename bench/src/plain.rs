@@ -107,6 +107,25 @@ fn nearest(numerator: i64, divisor: i64) -> i64 {
     }
 }
 
+/// The number n of some words, their sum T and the sum Q of their squares.
+#[derive(Clone, Copy)]
+struct Sums {
+    n: i64,
+    t: i64,
+    q: i64,
+}
+
+impl Sums {
+    fn of(words: impl Iterator<Item = i16>) -> Sums {
+        words.map(i64::from).fold(Sums { n: 0, t: 0, q: 0 }, |s, word| Sums { n: s.n + 1, t: s.t + word, q: s.q + word * word })
+    }
+
+    fn without(self, word: i16) -> Sums {
+        let word = i64::from(word);
+        Sums { n: self.n - 1, t: self.t - word, q: self.q - word * word }
+    }
+}
+
 /// The limits of n words: their sum T, and V = nQ - T^2 where Q is the sum of their squares. The mean is T/n and S^2 = V / (n (n - 1)), so
 /// a word is judged in whole numbers.
 struct Limits {
@@ -117,11 +136,7 @@ struct Limits {
 }
 
 impl Limits {
-    fn of(kind: Kind, words: impl Iterator<Item = i16>) -> Limits {
-        let (n, t, q) = words.fold((0, 0, 0), |(n, t, q), word| {
-            let word = i64::from(word);
-            (n + 1, t + word, q + word * word)
-        });
+    fn of(kind: Kind, Sums { n, t, q }: Sums) -> Limits {
         Limits { two_sided: kind != Kind::Duplicate, n, t, v: n * q - t * t }
     }
 
@@ -215,7 +230,7 @@ impl<'a> Chart<'a> {
         let (head, base, series) = records(form).ok_or(Refusal::NoForm)?;
         let [kind, status, verdict] = head.map(u16::from_le_bytes);
         let kind = Kind::of(kind.into()).ok_or(Refusal::Unsound)?;
-        let limits = Limits::of(kind, words(base));
+        let limits = Limits::of(kind, Sums::of(words(base)));
         let chart = Chart { kind, status, verdict, base, series, limits };
         if chart.is_sound() {
             Ok(chart)
@@ -329,7 +344,8 @@ struct Rejected {
     rounds: usize,
 }
 
-/// Removes the words beyond the control limits, all of a round together, until a round removes nothing. Takes at most 32 words.
+/// Removes the words beyond the control limits, all of a round together, until a round removes nothing. Takes at most 32 words. They are
+/// summed once. Each round after the first is given the sums less the words that were removed.
 fn reject(kind: Kind, given: impl Iterator<Item = i16>) -> Rejected {
     let mut words = [0; BASE_MOST];
     let mut left = 0;
@@ -337,13 +353,16 @@ fn reject(kind: Kind, given: impl Iterator<Item = i16>) -> Rejected {
         words[left] = word;
         left += 1;
     }
+    let mut sums = Sums::of(words[..left].iter().copied());
     let mut rounds = 0;
     loop {
         rounds += 1;
-        let limits = Limits::of(kind, words[..left].iter().copied());
+        let limits = Limits::of(kind, sums);
         let mut kept = 0;
         for i in 0..left {
-            if !limits.beyond(CONTROL, words[i]) {
+            if limits.beyond(CONTROL, words[i]) {
+                sums = sums.without(words[i]);
+            } else {
                 words[kept] = words[i];
                 kept += 1;
             }

@@ -157,6 +157,22 @@ def lines_text(chart):
         return "refused %d" % refused.number
 
 
+# Sums given to each round
+
+ROUNDS = (
+    ("0 ten times, 1, 12, 144, 1728, 20000, kind 1, rounds", 1, TEN),
+    ("0 ten times, -1, -12, -144, -1728, -20000, kind 3, rounds", 3, tuple(-word for word in TEN)),
+    ("100 thirty times, -20000, 20000, kind 2, rounds", 2, (100,) * 30 + (-20000, 20000)),
+    ("100 thirty times, 20000 twice, kind 2, rounds", 2, (100,) * 30 + (20000, 20000)),
+    ("A, rounds", 2, A),
+)
+
+
+def rounds_given(label, kind, words):
+    """The sums that each round of a rejection is given, the last round included: n, T and Q."""
+    return label, ", ".join("(%d; %d, %d)" % given for given in model.sums_given(kind, words))
+
+
 # Lists
 
 LENT_NUMBERS = (7,) * 24
@@ -217,6 +233,7 @@ def sections():
         ("Stored forms", [written(*case) for case in WRITTEN] + [read_back(*case) for case in READ_BACK]),
         ("Lines", [against_lines(label, chart, word) for label, chart, words in AGAINST_LINES for word in words]
          + [against_lines("chart of zeros", model.ZEROS, 0)]),
+        ("Sums given to each round", [rounds_given(*case) for case in ROUNDS]),
         ("Lists", [listed(*case) for case in LISTS]),
         ("Refused starts", [refused_start(*case) for case in REFUSED_STARTS]),
     )

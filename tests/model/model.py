@@ -1,4 +1,6 @@
-"""A model of document 01, the paper on control charts, with requests Q-1 and Q-3 of document 02. Whole numbers only.
+"""A model of document 01, the paper on control charts, with requests Q-1, Q-3 and Q-5 of document 02.
+
+It uses whole numbers only.
 
 Each function names the heading of document 01 that it follows, or the request of document 02. A refused call raises
 Refused with the number from the table; the chart that was handed in is then unchanged.
@@ -86,12 +88,20 @@ def word_alone(kind, a, b, c):
 
 # Base, limits, rejection
 
+def sums_of(words):
+    """Base, limits, rejection: n, T and Q of some words."""
+    return len(words), sum(words), sum(word * word for word in words)
+
+
+def figures_from(sums):
+    """Base, limits, rejection: n, T and V, from n, T and Q."""
+    n, total, squares = sums
+    return n, total, n * squares - total * total
+
+
 def figures(words):
     """Base, limits, rejection: n, T and V of some words."""
-    n = len(words)
-    total = sum(words)
-    squares = sum(word * word for word in words)
-    return n, total, n * squares - total * total
+    return figures_from(sums_of(words))
 
 
 def side(of_base, word):
@@ -132,14 +142,49 @@ def near(of_base, word):
     return distance(of_base, 1, word) < 0
 
 
+def less(sums, removed):
+    """document 02, Q-5: n, T and Q less the removed words. T is less each word, Q is less its square, n is less one.
+
+    So T rises where a negative word is removed.
+    """
+    n, total, squares = sums
+    for word in removed:
+        n, total, squares = n - 1, total - word, squares - word * word
+    return n, total, squares
+
+
+def one_round(kind, words, given):
+    """document 02, Q-5: one round of rejection. It gives the words left, in their old order, and the sums to hand on.
+
+    The round marks by the sums that it is given. It hands on these sums less the words that it removes.
+    """
+    of_words = figures_from(given)
+    left = tuple(word for word in words if not beyond(kind, of_words, 3, word))
+    removed = [word for word in words if beyond(kind, of_words, 3, word)]
+    return left, less(given, removed)
+
+
+def all_rounds(kind, words, given):
+    """document 02, Q-5: the words left standing, and a list of the sums given to this round and to each after it.
+
+    The first round that removes nothing is the last. Its sums are in the list too.
+    """
+    left, handed_on = one_round(kind, words, given)
+    if len(left) == len(words):
+        return left, [given]
+    base, later = all_rounds(kind, left, handed_on)
+    return base, [given] + later
+
+
+def sums_given(kind, words):
+    """document 02, Q-5: n, T and Q as each round is given them. Those of the first round are summed, and no others."""
+    return all_rounds(kind, words, sums_of(words))[1]
+
+
 def reject(kind, words):
     """Base, limits, rejection: the words left standing, the rounds, the number removed."""
-    of_words = figures(words)
-    left = tuple(word for word in words if not beyond(kind, of_words, 3, word))
-    if len(left) == len(words):
-        return left, 1, 0
-    base, rounds, removed = reject(kind, left)
-    return base, rounds + 1, removed + len(words) - len(left)
+    base, given = all_rounds(kind, words, sums_of(words))
+    return base, len(given), len(words) - len(base)
 
 
 def build(kind, words):

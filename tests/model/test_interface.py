@@ -529,15 +529,28 @@ def test_made_calls():
 def test_made_cases():
     """The cases: their headings, and lines whose numbers are known by hand."""
     sections = dict(make_cases.sections())
-    same(list(sections), ["Charts handed in", "Stored forms", "Lines", "Lists", "Refused starts"])
+    same(list(sections), ["Charts handed in", "Stored forms", "Lines", "Sums given to each round", "Lists",
+                          "Refused starts"])
     same(all(answer.startswith("refused 14, ") for _, answer in sections["Charts handed in"]), True)
     made = make_cases.files()
     labels = made["crates/cases/stdin"].decode().splitlines()
     lines = made["crates/cases/stdout"].decode().splitlines()
-    same(len(labels), 74)
+    same(len(labels), 80)
     same(len(set(labels)), len(labels))
+    same([label for label in labels if len(label) > 100], [])
     same([line for label, line in zip(labels, lines) if not line.startswith(label)], [])
     same(len(labels), len(lines))
+    # Document 02, Q-5: all lines of the section, with what is before and after it.
+    start = lines.index("Sums given to each round")
+    same(lines[start - 1].startswith("chart of zeros, 0 against the lines: "), True)
+    same(lines[start + 1:start + 7],
+         ["0 ten times, 1, 12, 144, 1728, 20000, kind 1, rounds: (15; 21885, 403006865), (14; 1885, 3006865), "
+          "(13; 157, 20881), (12; 13, 145), (11; 1, 1), (10; 0, 0)",
+          "0 ten times, -1, -12, -144, -1728, -20000, kind 3, rounds: (15; -21885, 403006865), (14; -1885, 3006865), "
+          "(13; -157, 20881), (12; -13, 145), (11; -1, 1), (10; 0, 0)",
+          "100 thirty times, -20000, 20000, kind 2, rounds: (32; 3000, 800300000), (30; 3000, 300000)",
+          "100 thirty times, 20000 twice, kind 2, rounds: (32; 43000, 800300000), (30; 3000, 300000)",
+          "A, rounds: (15; 150000, 1500140000)", "Lists"])
     for line in ("A with status 9, posts 10000: refused 14, status 9 verdict 0",
                  "A, 48 bytes lent: wrote 48: " + A_FORM.hex(" "),
                  "A, 50 bytes lent: wrote 48: " + A_FORM.hex(" ") + " aa aa",

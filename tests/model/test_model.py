@@ -14,6 +14,7 @@ import random
 from contextlib import redirect_stderr, redirect_stdout
 from fractions import Fraction
 from functools import lru_cache
+from unittest import mock
 
 import choices
 import expected
@@ -31,6 +32,7 @@ C = (10000,) * 7 + (10001,) * 8
 J = (296,) * 7 + (304,) * 7 + (300,)
 K = (900,) * 7 + (1100,) * 7 + (1000,)
 R = (-1100,) * 7 + (-900,) * 7 + (-1000,)
+TEN = (0,) * 10 + (1, 12, 144, 1728, 20000)
 Y = (200,) * 7 + (400,) * 7 + (300,)
 Z = (1000,) * 15
 
@@ -633,8 +635,7 @@ def test_building():
     same(model.build(2, low)[1:], (2, 1))
     two = (10000,) * 13 + (10001,) * 13 + (10050, 10051)
     same(model.build(2, two)[1:], (2, 2))
-    ten = (0,) * 10 + (1, 12, 144, 1728, 20000)
-    chart, rounds, removed = model.build(1, ten)
+    chart, rounds, removed = model.build(1, TEN)
     same((chart.base, rounds, removed), ((0,) * 10, 6, 5))
     same(refusal(model.renew, chart), 12)
     one = (1000,) * 14 + (2000,)
@@ -648,6 +649,89 @@ def test_building():
     same(model.figures(()), (0, 0, 0))
     same(model.beyond(2, (0, 0, 0), 3, 5), False)
     same(model.beyond(2, model.figures((4,)), 3, 5), False)
+
+
+def test_sums_given():
+    """Document 02, Q-5: the sums that each round is given; readings 8 and 9 of document 02."""
+    same(model.sums_given(1, TEN), [(15, 21885, 403006865), (14, 1885, 3006865), (13, 157, 20881), (12, 13, 145),
+                                    (11, 1, 1), (10, 0, 0)])
+    # T rises where a word below 0 is removed.
+    below = tuple(-word for word in TEN)
+    same(model.sums_given(3, below), [(15, -21885, 403006865), (14, -1885, 3006865), (13, -157, 20881), (12, -13, 145),
+                                      (11, -1, 1), (10, 0, 0)])
+    same(model.reject(3, below), ((0,) * 10, 6, 5))
+    # Two words go in one round: on both sides, and the same word twice.
+    same(model.sums_given(2, (100,) * 30 + (-20000, 20000)), [(32, 3000, 800300000), (30, 3000, 300000)])
+    same(model.sums_given(3, (-7, *(0,) * 29, -7)), [(31, -14, 98), (29, 0, 0)])
+    # One round, which removes nothing. Kind 1 has no lower limit, so it keeps a word far below the mean.
+    same(model.sums_given(2, A), [(15, 150000, 1500140000)])
+    same(model.sums_given(1, B + (0,)), [(15, 14000, 14000000)])
+    same(model.sums_given(2, B + (0,)), [(15, 14000, 14000000), (14, 14000, 14000000)])
+    # Reading 9: a round marks by the sums that it is given, and hands on those less the words that it removes. These
+    # are not the sums of A. With the first, S is 0. With the second, the mean is 9000 and S is 0.
+    same(model.one_round(2, A, (15, 150000, 1500000000)), ((10000,), (1, 10000, 99860000)))
+    same(model.one_round(1, A, (15, 135000, 1215000000)), ((), (0, -15000, -285140000)))
+    same(model.one_round(2, A, (15, 150000, 2000000000)), (A, (15, 150000, 2000000000)))
+    # Only the sums of the first round are made from words.
+    with mock.patch.object(model, "sums_of", wraps=model.sums_of) as summed:
+        same(model.reject(1, TEN), ((0,) * 10, 6, 5))
+        same([call.args for call in summed.call_args_list], [(TEN,)])
+
+
+def rounds_afresh(kind, words):
+    """Base, limits, rejection, by fractions: the words standing in each round, and n, T and Q of them summed afresh."""
+    rounds = []
+    while True:
+        n, total, squares = len(words), sum(words), sum(word ** 2 for word in words)
+        rounds.append((tuple(words), (n, total, squares)))
+        mean, s_squared = Fraction(total, n), Fraction(n * squares - total ** 2, n * (n - 1))
+        left = [word for word in words if (word - mean) ** 2 <= 9 * s_squared or kind == 1 and word < mean]
+        if len(left) == n:
+            return rounds
+        words = left
+
+
+def base_for_rounds(rng, kind):
+    """15 to 32 words of a kind: as for the commands, or close together with powers or with a few words far away."""
+    size = rng.choice((15, 16, 32, rng.randint(15, 32)))
+    shape = rng.randrange(3)
+    if shape == 0:
+        return tuple(choices.random_base(rng, kind, size))
+    centre, spread = rng.choice((0, 0, 100, 10000)), rng.choice((0, 1, 5))
+    if shape == 1:
+        ratio = rng.choice((2, 3, 4, 12))
+        far = [ratio ** power for power in range(1, rng.randint(2, 15))]
+    else:
+        far = [rng.choice((50, 1000, 20000))] * rng.randint(1, 2)
+        far += [rng.randint(0, 20000) for _ in range(rng.randrange(3))]
+    sides = (1,) if kind == 1 else rng.choice(((1,), (-1,), (1, -1)))
+    words = [centre + rng.choice(sides) * away for away in far if away <= 20000][:size - 10]
+    words += [centre + rng.randint(-spread, spread) for _ in range(size - len(words))]
+    rng.shuffle(words)
+    return tuple(min(20000, max(0 if kind == 1 else -20000, word)) for word in words)
+
+
+def test_sums_afresh():
+    """Document 02, Q-5: each round is given n, T and Q of the words then standing. Words and counts are as before."""
+    rng = random.Random(5)
+    for kind in (1, 2, 3):
+        sizes, rounds_met, at_once, ways = set(), set(), set(), set()
+        for _ in range(1200):
+            words = base_for_rounds(rng, kind)
+            assert 15 <= len(words) <= 32 and all(model.in_range(kind, word) for word in words), (kind, words)
+            rounds = rounds_afresh(kind, words)
+            base, sums = rounds[-1][0], [of_round for _, of_round in rounds]
+            assert model.sums_given(kind, words) == sums, (kind, words)
+            assert model.reject(kind, words) == (base, len(rounds), len(words) - len(base)), (kind, words)
+            sizes.add(len(words))
+            rounds_met.add(len(rounds))
+            for (n, total, _), (n_after, total_after, _) in zip(sums, sums[1:]):
+                at_once.add(n - n_after)
+                ways.add("falls" if total_after < total else "rises" if total_after > total else "stays")
+        # All sizes, one round to ten, one word removed in a round and two, T in every way that the kind allows.
+        same((kind, sizes), (kind, set(range(15, 33))))
+        same((kind, rounds_met >= set(range(1, 11)), at_once >= {1, 2}), (kind, True, True))
+        same((kind, ways), (kind, {"falls"} if kind == 1 else {"falls", "rises", "stays"}))
 
 
 def test_verdicts():
@@ -1077,6 +1161,7 @@ def test_block():
     same(sorted(READINGS), sorted(found))
     found = {int(number) for heading in headings
              for numbers in re.findall(r"READINGS-02 (\d+(?:, \d+)*)", heading) for number in numbers.split(", ")}
+    # 8 and 9 are about the sums of the rounds (document 02, Q-5). No command shows them.
     same((sorted(found), sorted(READINGS_02)), ([1, 2, 3, 4, 5, 6, 7], [1, 2, 3, 4, 5, 6, 7]))
     for request in ("document 02, Q-1: ", "document 02, Q-3: "):
         same((request, any(heading.startswith(request) for heading in headings)), (request, True))
@@ -1302,10 +1387,11 @@ def test_expected():
 
 
 def main():
-    for test in (test_words, test_rounding, test_chosen_readings, test_stored_words, test_building, test_verdicts,
-                 test_one_side_before_trend, test_reanalysis, test_order, test_stored_form, test_lines, test_commands,
-                 test_ends_and_fronts, test_statuses, test_files, test_file_cases, test_made, test_block, test_outcomes,
-                 test_made_halves, test_figures, test_examples, test_day, test_transcript, test_expected):
+    for test in (test_words, test_rounding, test_chosen_readings, test_stored_words, test_building, test_sums_given,
+                 test_sums_afresh, test_verdicts, test_one_side_before_trend, test_reanalysis, test_order,
+                 test_stored_form, test_lines, test_commands, test_ends_and_fronts, test_statuses, test_files,
+                 test_file_cases, test_made, test_block, test_outcomes, test_made_halves, test_figures, test_examples,
+                 test_day, test_transcript, test_expected):
         test()
     print("%d passed, 0 failed" % PASSED)
 

@@ -1,11 +1,12 @@
 // Runs what no command of `control_chart` can express, and says the answers: charts handed in that no call gives, lent buffers, a chart
-// written and read back, words against a chart's lines, and whole lists of calls. Standard input has a line for each case, with its label.
-// The label is said, and the answer after it. `tests/model` makes both files: `stdin`, and `stdout`, with which the output is compared.
-// All functions but `fill` only write output, and no contract can state what is written.
+// written and read back, words against a chart's lines, the sums that rounds of rejection are given, and whole lists of calls. Standard
+// input has a line for each case, with its label. The label is said, and the answer after it. `tests/model` makes both files: `stdin`, and
+// `stdout`, with which the output is compared. All functions but `fill` only write output, and no contract can state what is written.
 mod against;
 mod forms;
 mod handed_in;
 mod listed;
+mod rounds;
 mod say;
 
 use chart::Chart;
@@ -20,6 +21,7 @@ fn main() {
     handed_in::charts_handed_in(a);
     forms::stored_forms(a);
     against::words_against_lines(a);
+    rounds::sums_given(a);
     listed::lists_run(a, &words);
     forms::refused_starts(&words);
 }

@@ -1,5 +1,7 @@
 pub mod Places
-mod Rounds
+mod Marks
+pub mod Rounds
+mod OtherSums
 pub mod SoundCharts
 pub mod State
 pub mod ZeroChart

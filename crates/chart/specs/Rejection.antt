@@ -1,14 +1,19 @@
--- What the functions of rejection give, in terms of the paper's rejection.
+-- What the functions of rejection give, in terms of the paper's rejection and of the sums that its rounds are given.
 use mathlib.Core.Path.{_≡_}
 use mathlib.Core.Bool.{Bool}
 use mathlib.Core.List.{List, [], _∷_}
+use Prim.Native.Nat.{ℕ}
 use lib.ListN.{length}
 use lib.IntN.{ℤ, pos}
 use Rattle.guide.specs.Sizes.{baseMost}
 use Rattle.guide.specs.Choice.{choose}
 use Rattle.guide.specs.Rejection as guide
+use Rattle.guide.specs.Carried.{Given, removedWords, handedOn}
+use Rattle.limits.specs.declared.Sums.{Sums}
+use Rattle.limits.specs.Sums.{sumsSay, Bounded, Removable}
 use Rattle.chart.specs.declared.rejection.Standing.{Standing}
 use Rattle.chart.specs.declared.rejection.RejectionAnswer.{RejectionAnswer}
+use Rattle.chart.specs.declared.rejection.HandedOn.{HandedOn}
 use Rattle.chart.specs.Pad.{pad}
 
 -- the words whose mark is false
@@ -16,6 +21,12 @@ unfoldable pub withoutMarked : List Bool → List ℤ → List ℤ
 withoutMarked [] ws = []
 withoutMarked (m ∷ ms) [] = []
 withoutMarked (m ∷ ms) (w ∷ ws) = choose m (withoutMarked ms ws) (w ∷ withoutMarked ms ws)
+
+-- the words whose mark is true
+unfoldable pub marked : List Bool → List ℤ → List ℤ
+marked [] ws = []
+marked (m ∷ ms) [] = []
+marked (m ∷ ms) (w ∷ ws) = choose m (w ∷ marked ms ws) (marked ms ws)
 
 -- the places hold these words, and 0 after them
 pub record Holds (ws : List ℤ) (s : Standing) : Type 0 where
@@ -27,3 +38,19 @@ pub record IsRejection (a : guide.RejectionAnswer) (r : RejectionAnswer) : Type 
   pub left : Holds (a .base) (r .left)
   pub rounds : r .rounds ≡ a .rounds
   pub removed : r .removed ≡ a .removed
+
+-- ---- a round, over any sums that it is given: document 02, Q-5
+
+-- what a round is given
+abbrev pub givenSays : List ℤ → Sums → Given
+givenSays ws s = record { sums = sumsSay s; words = ws }
+
+-- words can be compared with the limits of the sums given, and those beyond them can be taken away from the sums
+pub record CanRemove (kind : ℕ) (ws : List ℤ) (s : Sums) : Type 0 where
+  pub bounded : Bounded s
+  pub removable : Removable (removedWords kind (givenSays ws s)) s
+
+-- r is what a round that is given g hands on: the words left, and the sums given less the words removed
+pub record HandsOn (kind : ℕ) (g : Given) (r : HandedOn) : Type 0 where
+  pub left : Holds (handedOn kind g .words) (r .left)
+  pub sums : sumsSay (r .sums) ≡ handedOn kind g .sums

@@ -6,7 +6,7 @@
 // Every call first refuses, with 14, a chart that is not sound, whatever its lengths are. Then it refuses, in this order: post 8 (status
 // not 0), 9 (366 words in the series), 4 (a reading of another kind), 5, 6, 7; reanalyse 10 (status not 1), 4, 5, 6, 7; correct 11 (status
 // not 2); renew 8, 12 (base and series below 15). A refused call gives back the very chart that it got.
-mod rejection;
+pub mod rejection;
 pub mod soundness;
 
 use judging::reanalysis::passes;

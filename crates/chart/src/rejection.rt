@@ -1,11 +1,13 @@
-// Rejection: document 01, "Base, limits, rejection".
+// Rejection: document 01, "Base, limits, rejection", and document 02, Q-5.
 //
-// A round marks the words beyond the control limits and then moves the others together. Words stand at the front of 32 places, with 0 in
-// the rest.
+// A round marks the words beyond the control limits, moves the others together, and takes the marked words away from the sums that it was
+// given. Words stand at the front of 32 places, with 0 in the rest.
 use crate::Chart;
 use limits::Limits;
+use limits::Sums;
 use limits::beyond_control;
 use limits::sums_of;
+use limits::without_word;
 ghost use mathlib.Core.Path.{_≡_};
 ghost use mathlib.Core.Bool.{false};
 ghost use mathlib.Core.List.{map};
@@ -13,10 +15,11 @@ ghost use Prim.Native.Nat.{_≤_};
 ghost use lib.ListN.{take};
 ghost use Rattle.guide.specs.Sizes.{baseMost};
 ghost use Rattle.guide.specs.Limits.{beyondControl};
-ghost use Rattle.guide.specs.Rejection.{afterRound, rejection};
-ghost use Rattle.limits.specs.Sums.{limitsSay, Bounded};
+ghost use Rattle.guide.specs.Rejection.{rejection};
+ghost use Rattle.guide.specs.Carried.{lessWords};
+ghost use Rattle.limits.specs.Sums.{sumsSay, limitsSay, AreSums, Bounded, Removable};
 ghost use Rattle.chart.specs.Pad.{pad};
-ghost use Rattle.chart.specs.Rejection.{withoutMarked, Holds, IsRejection};
+ghost use Rattle.chart.specs.Rejection.{withoutMarked, marked, Holds, IsRejection, givenSays, CanRemove, HandsOn};
 
 // The first n of 32 places hold words.
 pub struct Standing {
@@ -31,12 +34,28 @@ pub struct RejectionAnswer {
     pub removed: usize,
 }
 
-// Rejection calls itself on the words left, until a round removes nothing.
+// What a round hands on to the next one: the words that it leaves, and the sums that it was given less the words that it removes.
+pub struct HandedOn {
+    pub left: Standing,
+    pub sums: Sums,
+}
+
+// The sums of the words are made once. The first round is given them.
 pub fn reject(kind: u16, words: [i16; Chart::BASE_MOST], n: usize) -> RejectionAnswer
     requires { ⌜ n ≤ baseMost ⌝ }
     ensures { λ r. ⌜ IsRejection (rejection kind (take n words)) r ⌝ }
 {
-    let left = after_round(kind, words, n);
+    let sums = sums_of(&words[..n]);
+    reject_given(kind, words, n, sums)
+}
+
+// Rejection calls itself on the words left, until a round removes nothing. Each call is given n, T and Q of the words.
+fn reject_given(kind: u16, words: [i16; Chart::BASE_MOST], n: usize, sums: Sums) -> RejectionAnswer
+    requires { ⌜ (n ≤ baseMost) × AreSums (take n words) sums ⌝ }
+    ensures { λ r. ⌜ IsRejection (rejection kind (take n words)) r ⌝ }
+{
+    let next = round(kind, words, n, sums);
+    let left = next.left;
     let m = left.n;
     if m == n {
         return RejectionAnswer {
@@ -46,7 +65,7 @@ pub fn reject(kind: u16, words: [i16; Chart::BASE_MOST], n: usize) -> RejectionA
         };
     }
     let rest = left.words;
-    let r = reject(kind, rest, m);
+    let r = reject_given(kind, rest, m, next.sums);
     let base = r.left;
     RejectionAnswer {
         left: base,
@@ -55,13 +74,16 @@ pub fn reject(kind: u16, words: [i16; Chart::BASE_MOST], n: usize) -> RejectionA
     }
 }
 
-fn after_round(kind: u16, words: [i16; Chart::BASE_MOST], n: usize) -> Standing
-    requires { ⌜ n ≤ baseMost ⌝ }
-    ensures { λ r. ⌜ Holds (afterRound kind (take n words)) r ⌝ }
+// A round marks words by the sums that it is given, and hands on these sums less the marked words. The sums need not be those of the words.
+pub fn round(kind: u16, words: [i16; Chart::BASE_MOST], n: usize, sums: Sums) -> HandedOn
+    requires { ⌜ (n ≤ baseMost) × CanRemove kind (take n words) sums ⌝ }
+    ensures { λ r. ⌜ HandsOn kind (givenSays (take n words) sums) r ⌝ }
 {
-    let sums = sums_of(&words[..n]);
     let marks = marks_beyond(Limits { kind, sums }, words, n);
-    without_marked(words, n, marks)
+    HandedOn {
+        left: without_marked(words, n, marks),
+        sums: less_marked(sums, words, n, marks),
+    }
 }
 
 // Which of the first n words are beyond the control limits.
@@ -102,4 +124,25 @@ fn without_marked(
         words: left,
         n: kept,
     }
+}
+
+// The sums less the marked words.
+fn less_marked(
+    sums: Sums,
+    words: [i16; Chart::BASE_MOST],
+    n: usize,
+    marks: [bool; Chart::BASE_MOST],
+) -> Sums
+    requires { ⌜ (n ≤ baseMost) × Removable (marked (take n marks) (take n words)) sums ⌝ }
+    ensures { λ r. ⌜ sumsSay r ≡ lessWords (sumsSay sums) (marked (take n marks) (take n words)) ⌝ }
+{
+    let mut less = sums;
+    let mut i: usize = 0;
+    while i < n {
+        if marks[i] {
+            less = without_word(less, words[i]);
+        }
+        i += 1;
+    }
+    less
 }

@@ -10,6 +10,7 @@ use Rattle.guide.specs.Limits.{sumOf, sumOfSquares, sumsOf, vOf, scaledD
 use Rattle.guide.specs.Limits.{within, aboveMean, belowMean, nearMean, beyondLower, beyond, beyondControl, beyondWarning}
 use Rattle.guide.specs.Limits.{beyondUpperWarning, beyondLowerWarning}
 use Rattle.guide.specs.Rejection.{without, afterRound, rejectionWithin, rejection}
+use Rattle.guide.specs.Carried.{only, lessWords, beyondGiven, removedWords, handedOn, withOwnSums, inRounds, givenToRounds}
 use Rattle.guide.specs.LastWords.{lastWords, butLast, lastWord, oneBeforeLast}
 use Rattle.guide.specs.State.{fresh, limitsFor, addWord, replaceLast, setStatus}
 use Rattle.guide.specs.Building.{isBuildCount, allInRange, buildRefusal, building}
@@ -27,7 +28,8 @@ pub figures-hold : map (λ (r : Row). r .defined) table ≡ map (λ (r : Row). r
 unfolding table isKind ignoresThird wordLeast inRange hasLower judgesSide isReading areReadings numerator divisor nearestNatural nearest
     roundedQuotient fromReading wordAlone sumOf sumOfSquares sumsOf vOf scaledDeviation exceeds within aboveMean belowMean nearMean
     above below limitsOf beyondUpper beyondLower beyond beyondControl beyondWarning beyondUpperWarning beyondLowerWarning without afterRound
-    rejectionWithin rejection lastWords butLast lastWord oneBeforeLast fresh limitsFor addWord replaceLast setStatus isBuildCount allInRange
+    rejectionWithin rejection only lessWords beyondGiven removedWords handedOn withOwnSums inRounds givenToRounds
+    lastWords butLast lastWord oneBeforeLast fresh limitsFor addWord replaceLast setStatus isBuildCount allInRange
     buildRefusal building allOf eachNext isRun rising falling runAbove runBelow controlTest warningTest trendTest sideTest
     firstVerdict verdict statusFor
     turnsBack passesTrend passesVerdict passes postRefusal reanalysisRefusal wordFor posting afterReanalysis reanalysing step answers

@@ -13,6 +13,7 @@ pub mod Without
 pub mod Limits
 pub mod PassesBetween
 pub mod Rejection
+pub mod Carried
 pub mod InOrder
 pub mod LastWords
 pub mod Verdict

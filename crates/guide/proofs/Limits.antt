@@ -24,7 +24,7 @@ use Rattle.guide.proofs.Integers.{square-magnitude, is-pos, agree}
 
 -- ---- T and Q in natural numbers
 
-sum-is : (ws : List ℤ) → Diff (sumOf ws) (sumBy plusPart ws) (sumBy minusPart ws)
+pub sum-is : (ws : List ℤ) → Diff (sumOf ws) (sumBy plusPart ws) (sumBy minusPart ws)
 unfolding sumOf sumBy
 sum-is [] = of-pos
 sum-is (w ∷ ws) = plus (of-any w) (sum-is ws)

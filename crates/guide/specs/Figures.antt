@@ -9,6 +9,7 @@ use lib.IntN.{ℤ, pos, negsuc}
 use Rattle.guide.specs.Word as word
 use Rattle.guide.specs.Limits.{Sums, sumsOf, vOf, Limits, limitsOf, controlMultiple, warningMultiple, beyondUpper, beyondLower}
 use Rattle.guide.specs.Limits.{beyondControl, beyondWarning}
+use Rattle.guide.specs.Carried.{Given, handedOn, givenToRounds}
 use Rattle.guide.specs.Building as build
 use Rattle.guide.specs.Verdict.{trendTest, sideTest}
 use Rattle.guide.specs.Machine as machine
@@ -34,6 +35,11 @@ buildNumbers (build.refused n) = pos n ∷ []
 -- n, T and V
 abbrev pub sumsNumbers : Sums → List ℤ
 sumsNumbers s = pos (s .n) ∷ s .t ∷ vOf s ∷ []
+
+-- n, T and Q that each round is given
+abbrev pub givenNumbers : List Given → List ℤ
+givenNumbers [] = []
+givenNumbers (g ∷ gs) = pos (g .sums .n) ∷ g .sums .t ∷ g .sums .q ∷ givenNumbers gs
 
 abbrev pub truth : Bool → ℤ
 truth false = pos 0
@@ -74,6 +80,17 @@ baseC = replicate 7 (pos 10000) ++ replicate 8 (pos 10001)
 -- "Kind 1, 1000 fourteen times and 2000"
 abbrev pub fourteenAndOne : List ℤ
 fourteenAndOne = replicate 14 (pos 1000) ++ (pos 2000 ∷ [])
+
+-- rounds that remove one word each: of the first base they remove 20000, 1728, 144, 12 and 1, of the second the words below 0
+abbrev pub fiveToRemove : List ℤ
+fiveToRemove = replicate 10 (pos 0) ++ (pos 1 ∷ pos 12 ∷ pos 144 ∷ pos 1728 ∷ pos 20000 ∷ [])
+
+abbrev pub fiveBelowZero : List ℤ
+fiveBelowZero = replicate 10 (pos 0) ++ (negsuc 0 ∷ negsuc 11 ∷ negsuc 143 ∷ negsuc 1727 ∷ negsuc 19999 ∷ [])
+
+-- ten words 0 and one of 100, given with the sums of other words: n 30, T 100, Q 10000
+abbrev pub withOtherSums : Given
+withOtherSums = record { sums = record { n = 30; t = pos 100; q = pos 10000 }; words = replicate 10 (pos 0) ++ (pos 100 ∷ []) }
 
 -- a test of the word on a limit, and of the next word outwards. If a limit is a whole number, it is the last word not beyond it
 abbrev pub edge : (ℤ → Bool) → ℤ → ℤ → List ℤ
@@ -148,4 +165,20 @@ table =
       defined = linesNumbers (linesOf (limitsOf 2 baseC));
       figure = pos 2559740 ∷ pos 2559873 ∷ pos 2560136 ∷ pos 2560400 ∷ pos 2560533 ∷ [];
     }
+    -- document 02, Q-5: n, T and Q that each of six rounds is given, the last included. T falls with a word above 0 that is removed, and
+    -- rises with one below 0
+    ∷ record {
+      defined = givenNumbers (givenToRounds 1 fiveToRemove);
+      figure = pos 15 ∷ pos 21885 ∷ pos 403006865 ∷ pos 14 ∷ pos 1885 ∷ pos 3006865 ∷ pos 13 ∷ pos 157 ∷ pos 20881
+          ∷ pos 12 ∷ pos 13 ∷ pos 145 ∷ pos 11 ∷ pos 1 ∷ pos 1 ∷ pos 10 ∷ pos 0 ∷ pos 0 ∷ [];
+    }
+    ∷ record {
+      defined = givenNumbers (givenToRounds 3 fiveBelowZero);
+      figure = pos 15 ∷ negsuc 21884 ∷ pos 403006865 ∷ pos 14 ∷ negsuc 1884 ∷ pos 3006865 ∷ pos 13 ∷ negsuc 156 ∷ pos 20881
+          ∷ pos 12 ∷ negsuc 12 ∷ pos 145 ∷ pos 11 ∷ negsuc 0 ∷ pos 1 ∷ pos 10 ∷ pos 0 ∷ pos 0 ∷ [];
+    }
+    -- a round goes by the sums that it is given, whatever they are: it removes 100, and hands on (29; 0, 0), which are not the sums of the
+    -- ten words left
+    ∷ record { defined = givenNumbers (handedOn 1 withOtherSums ∷ []); figure = pos 29 ∷ pos 0 ∷ pos 0 ∷ [] }
+    ∷ record { defined = handedOn 1 withOtherSums .words; figure = replicate 10 (pos 0) }
     ∷ []

@@ -6,6 +6,7 @@ pub mod Kind
 pub mod Word
 pub mod Limits
 pub mod Rejection
+pub mod Carried
 pub mod LastWords
 pub mod State
 pub mod Building

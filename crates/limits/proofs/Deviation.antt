@@ -14,10 +14,10 @@ use Rattle.limits.specs.Sums.{sumsSay, Bounded}
 use Rattle.limits.proofs.Spread.{sum-small, sum-fits}
 
 -- a word after its casts, T, and n·w, as the computer holds them
-abbrev castWord : ℤ → ℤ
+abbrev pub castWord : ℤ → ℤ
 castWord w = toZ w64 (ofZ w64 (toZ w16 (ofZ w16 w)))
 
-abbrev heldSum : Sums → ℤ
+abbrev pub heldSum : Sums → ℤ
 heldSum s = toZ w64 (ofZ w64 (s .t))
 
 abbrev heldProduct : Sums → ℤ → ℤ

@@ -1,4 +1,5 @@
 pub mod Spread
 mod Deviation
-mod Summing
+pub mod Summing
+pub mod Removing
 mod Comparison

@@ -7,14 +7,14 @@ use lib.IntN.{pos, natAbs}
 use mir.Syntax.{w64}
 use mir.Val.{SFits}
 use Rattle.guide.specs.Limits.{vOf}
-use Rattle.guide.proofs.Integers.{of-pos, minus, is-pos, square-magnitude}
+use Rattle.guide.proofs.Integers.{by-order, of-pos, minus, is-pos, square-magnitude}
 use Rattle.guide.proofs.Held.{small-fits}
 use Rattle.limits.specs.declared.Sums.{Sums}
 use Rattle.limits.specs.Sums.{sumsSay, Bounded}
 
 module _ (s : Sums) (b : Bounded s) where
   pub nq-small : s .n * s .q ≤ 2 ^ 40
-  nq-small = let q : s .q ≤ 2 ^ 35 = omega (arith, b .few, b .squares) in omega (arith, mul-le-mul (b .few) q)
+  nq-small = omega (arith, mul-le-mul (b .few) (b .squares))
 
   pub v-is : pos (s .n * s .q - natAbs (s .t) * natAbs (s .t)) ≡ vOf (sumsSay s)
   unfolding vOf
@@ -27,7 +27,9 @@ module _ (s : Sums) (b : Bounded s) where
   v-small = omega (arith, nq-small, ap natAbs v-is)
 
   pub sum-small : natAbs (s .t) ≤ 2 ^ 20
-  sum-small = omega (arith, b .few, b .sum)
+  sum-small =
+      let a = natAbs (s .t) in
+      by-order (2 ^ 20) a (λ h. h) (λ h. absurd (omega (arith, mul-le-mul h h, b .v, nq-small)))
 
   pub sum-fits : SFits w64 (s .t)
   sum-fits = small-fits (omega (arith, sum-small))

@@ -13,26 +13,31 @@ use mir.Facts.{toZ-ofZ}
 use Rattle.guide.specs.Sizes.{baseMost}
 use Rattle.guide.specs.Limits as guide
 use Rattle.guide.specs.Limits.{sumOf, sumOfSquares, sumsOf, vOf, withWord}
-use Rattle.guide.proofs.Integers.{of-pos, minus, agree, square-magnitude, magnitude-plus}
+use Rattle.guide.proofs.Integers.{of-pos, minus, agree, square-magnitude}
 use Rattle.guide.proofs.Limits.{v-natural, sums-snoc}
-use Rattle.guide.proofs.Held.{word-small, word-square-small}
+use Rattle.guide.proofs.Held.{word-square-small}
 use Rattle.limits.specs.declared.Sums.{Sums}
 use Rattle.limits.specs.Sums.{sumsSay, AreSums}
 
-are-sums : (s : Sums) (ws : List ℤ) → sumsSay s ≡ sumsOf ws → s .n ≤ baseMost
-    → natAbs (s .t) ≤ 2 ^ 15 * s .n → s .q ≤ 2 ^ 30 * s .n → AreSums ws s
+pub are-sums : (s : Sums) (ws : List ℤ) → sumsSay s ≡ sumsOf ws → s .n ≤ baseMost → s .q ≤ 2 ^ 30 * baseMost → AreSums ws s
 unfolding vOf
-are-sums s ws e few sum squares =
+are-sums s ws e few squares =
     let k = natAbs (vOf (sumsOf ws)) in
     let a = natAbs (s .t) * natAbs (s .t) in
     let v : pos (s .n) *ℤ pos (s .q) -ℤ s .t *ℤ s .t ≡ pos k = ap vOf e ∙ v-natural ws in
     let v′ : pos (s .n * s .q) -ℤ pos a ≡ pos k = rw (square-magnitude (s .t)) at v in
     let not-negative = agree (minus (of-pos {n = s .n * s .q}) (of-pos {n = a})) (of-pos {n = k}) v′ in
-    record { same = e; bounded = record { few = few; sum = sum; squares = squares; v = omega arith } }
+    record { same = e; bounded = record { few = few; squares = squares; v = omega arith } }
 
-pub of-none : AreSums [] (record { n = 0; t = pos 0; q = 0 })
+-- the sums of some words of sixteen bits. Q is at most 2^30 for each word
+pub record Summed (ws : List ℤ) (s : Sums) : Type 0 where
+  pub are : AreSums ws s
+  pub squares : s .q ≤ 2 ^ 30 * s .n
+
+pub of-none : Summed [] (record { n = 0; t = pos 0; q = 0 })
 unfolding sumsOf sumOf sumOfSquares
-of-none = are-sums (record { n = 0; t = pos 0; q = 0 }) [] refl (omega arith) (omega arith) (omega arith)
+of-none =
+    record { are = are-sums (record { n = 0; t = pos 0; q = 0 }) [] refl (omega arith) (omega arith); squares = omega arith }
 
 pub count-is : (ws : List ℤ) (s : Sums) → AreSums ws s → s .n ≡ length ws
 unfolding sumsOf
@@ -40,17 +45,15 @@ count-is ws s h = ap (λ (x : guide.Sums). x .n) (h .same)
 
 -- the word at i, as the computer holds it, added to the sums of the words before it
 pub of-one-more : (s r : Sums) (ws : List ℤ) (i : ℕ) → let w = getD ws i (pos 0) in
-    i < length ws → SFits w16 w → AreSums (take i ws) s → s .n < baseMost
-    → sumsSay r ≡ withWord (sumsSay s) (toZ w16 (ofZ w16 w)) → AreSums (take (i + 1) ws) r
+    i < length ws → SFits w16 w → Summed (take i ws) s → s .n < baseMost
+    → sumsSay r ≡ withWord (sumsSay s) (toZ w16 (ofZ w16 w)) → Summed (take (i + 1) ws) r
 of-one-more s r ws i h fit a few e =
     let w = getD ws i (pos 0) in
     let f : sumsSay r ≡ withWord (sumsSay s) w = rw (toZ-ofZ fit) at e in
     let n : r .n ≡ s .n + 1 = ap (λ (x : guide.Sums). x .n) f in
-    let t : r .t ≡ s .t +ℤ w = ap (λ (x : guide.Sums). x .t) f in
     let q : pos (r .q) ≡ pos (s .q + natAbs w * natAbs w) =
     ap (λ (x : guide.Sums). x .q) f ∙ ap (λ (z : ℤ). pos (s .q) +ℤ z) (square-magnitude w) in
     let next : take i ws ++ (w ∷ []) ≡ take (i + 1) ws = sym (rw (add-one, take-suc ws i (pos 0))) in
-    let all = f ∙ ap (λ (x : guide.Sums). withWord x w) (a .same) ∙ sym (sums-snoc (take i ws) w) ∙ ap sumsOf next in
-    are-sums r (take (i + 1) ws) all (omega arith)
-    (omega (arith, a .bounded .sum, ap natAbs t, magnitude-plus (s .t) w, word-small fit))
-    (omega (arith, a .bounded .squares, ap natAbs q, word-square-small fit))
+    let all = f ∙ ap (λ (x : guide.Sums). withWord x w) (a .are .same) ∙ sym (sums-snoc (take i ws) w) ∙ ap sumsOf next in
+    let squares : r .q ≤ 2 ^ 30 * r .n = omega (arith, a .squares, ap natAbs q, word-square-small fit) in
+    record { are = are-sums r (take (i + 1) ws) all (omega arith) (omega arith); squares = squares }

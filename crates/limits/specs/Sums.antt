@@ -1,7 +1,8 @@
 -- What the structs of `limits` say in the paper's terms, and bounds on the sums of sixteen-bit words.
 use mathlib.Core.Path.{_≡_}
 use mathlib.Core.List.{List}
-use Prim.Native.Nat.{ℕ, _*_, _-_, _≤_, _<_, _^_}
+use Prim.Native.Nat.{ℕ, _+_, _*_, _-_, _≤_, _<_, _^_}
+use lib.ListN.{length}
 use lib.IntN.{ℤ, pos, natAbs, _*ℤ_}
 use Rattle.guide.specs.Sizes.{baseMost}
 use Rattle.guide.specs.Limits as guide
@@ -19,12 +20,19 @@ sumsSay s = record { n = s .n; t = s .t; q = pos (s .q) }
 abbrev pub limitsSay : Limits → guide.Limits
 limitsSay l = record { kind = l .kind; sums = sumsSay (l .sums) }
 
--- bounds on the sums of at most 32 words of sixteen bits. By the last bound V is not negative
+-- bounds on the sums of at most 32 words of sixteen bits. By the last bound V is not negative. The three bounds
+-- together bound T
 pub record Bounded (s : Sums) : Type 0 where
   pub few : s .n ≤ baseMost
-  pub sum : natAbs (s .t) ≤ 2 ^ 15 * s .n
-  pub squares : s .q ≤ 2 ^ 30 * s .n
+  pub squares : s .q ≤ 2 ^ 30 * baseMost
   pub v : natAbs (s .t) * natAbs (s .t) ≤ s .n * s .q
+
+-- words that can be taken away from sums, whether or not these are the sums of words: n is at least their number, Q is at least the sum of
+-- their squares, and T stays within 64 bits
+pub record Removable (ws : List ℤ) (s : Sums) : Type 0 where
+  pub count : length ws ≤ s .n
+  pub squares : guide.sumBy guide.squareOf ws ≤ s .q
+  pub sum : natAbs (s .t) + guide.sumBy natAbs ws < 2 ^ 63
 
 -- s are the sums of the words
 pub record AreSums (ws : List ℤ) (s : Sums) : Type 0 where

@@ -2,16 +2,19 @@
 //
 // A limit is the mean plus or minus a multiple m of S. `limits_of` gives what a word is judged by: a chart kind, with n, T and Q of some
 // words. `beyond` compares a word with the limits at any m, by squares of whole numbers. `beyond_control` and `beyond_warning` do this at
-// the paper's 3 and 2. `near_mean` and `side_of_mean` compare a word with the mean.
+// the paper's 3 and 2. `near_mean` and `side_of_mean` compare a word with the mean. `without_word` takes a word away from sums: document
+// 02, Q-5.
 ghost use mathlib.Core.Path.{_≡_};
+ghost use mathlib.Core.List.{[], _∷_};
 ghost use Prim.Native.Nat.{_≤_, _<_};
 ghost use lib.ListN.{length};
 ghost use lib.IntN.{pos, natAbs};
 ghost use Rattle.guide.specs.Sizes.{baseMost};
 ghost use Rattle.guide.specs.Kind.{hasLower};
 ghost use Rattle.guide.specs.Limits as guide;
-ghost use Rattle.limits.specs.Sums.{sumsSay, limitsSay, AreSums, AreLimits, Bounded, Comparable, AreSquares, IsBeyond};
-ghost use Rattle.limits.specs.Sums.{IsBeyondWarning, IsSide};
+ghost use Rattle.guide.specs.Carried.{lessWords};
+ghost use Rattle.limits.specs.Sums.{sumsSay, limitsSay, AreSums, AreLimits, Bounded, Removable, Comparable, AreSquares};
+ghost use Rattle.limits.specs.Sums.{IsBeyond, IsBeyondWarning, IsSide};
 
 // Control limits are the mean ± 3S, warning limits the mean ± 2S.
 pub const CONTROL: u8 = 3;
@@ -195,6 +198,17 @@ fn with_word(s: Sums, w: i16) -> Sums
         t: s.t + (w as i64),
         q: s.q + square(w),
     }
+}
+
+// The sums less one word.
+pub fn without_word(s: Sums, w: i16) -> Sums
+    requires { ⌜ Removable (w ∷ []) s ⌝ }
+    ensures { λ r. ⌜ sumsSay r ≡ lessWords (sumsSay s) (w ∷ []) ⌝ }
+{
+    let n = s.n - 1;
+    let t = s.t - (w as i64);
+    let q = s.q - square(w);
+    Sums { n, t, q }
 }
 
 fn square(w: i16) -> u64

@@ -1,7 +1,7 @@
 -- The doubles of a sound chart's lines: k is at most 2 ^ 34 in size, and the program reads exactly this k off its double (`lines-held`).
-use mathlib.Core.Path.{_≡_, refl, ap, _∙_}
+use mathlib.Core.Path.{_≡_, refl, _∙_}
 use mathlib.Core.Bool.{true}
-use mathlib.Core.List.{List, [], _∷_}
+use mathlib.Core.List.{List}
 use Prim.Native.Nat.{ℕ, _*_, _-_, _/_, _<_, _≤_, _^_}
 use native.Mathlib.Omega.{arith}
 use native.Mathlib.Nat.{mul-le-mul, div-le-self}
@@ -9,21 +9,18 @@ use lib.ListN.{length}
 use lib.Dec.{lit≤}
 use lib.IntN.{ℤ, pos, natAbs, _+ℤ_, _-ℤ_, _*ℤ_}
 use Rattle.guide.specs.Sizes.{lineParts, baseMost}
-use Rattle.guide.specs.Kind.{inRange, wordMost, hasLower}
-use Rattle.guide.specs.AllOf.{allOf}
+use Rattle.guide.specs.Kind.{hasLower}
 use Rattle.guide.specs.Building.{allInRange}
 use Rattle.guide.specs.SquareRoot.{squareRoot}
 use Rattle.guide.specs.Limits as limits
-use Rattle.guide.specs.Limits.{sumOf, sumOfSquares, sumsOf, vOf, limitsOf, controlMultiple, warningMultiple}
+use Rattle.guide.specs.Limits.{sumOf, sumOfSquares, sumsOf, limitsOf, controlMultiple, warningMultiple}
 use Rattle.guide.specs.State.{limitsFor}
 use Rattle.guide.specs.Double.{doubleOf}
 use Rattle.guide.specs.Lines.{greatestDeviation, upperLine, lowerLine, meanLine}
 use Rattle.guide.specs.ChartLines.{linesOf}
-use Rattle.guide.proofs.Booleans.{both}
 use Rattle.guide.proofs.Choice.{choose-ind}
-use Rattle.guide.proofs.Integers.{by-order, of-pos, minus, agree, square-magnitude, magnitude-plus}
-use Rattle.guide.proofs.Kind.{in-range-few}
-use Rattle.guide.proofs.Limits.{v-natural, squares-are}
+use Rattle.guide.proofs.Integers.{by-order}
+use Rattle.guide.proofs.Limits.{squares-are}
 use Rattle.guide.proofs.Lines.{in-range-squares}
 use Rattle.guide.proofs.SquareRoot.{root-is}
 use Rattle.guide.proofs.Soundness.{sound-facts}
@@ -32,6 +29,7 @@ use Rattle.limits.specs.declared.Sums.{Sums}
 use Rattle.limits.specs.declared.Limits.{Limits}
 use Rattle.limits.specs.Sums.{sumsSay, Bounded}
 use Rattle.limits.proofs.Spread.{v-is}
+use Rattle.limits.proofs.Summing.{are-sums}
 use Rattle.chart.specs.declared.Chart.{Chart}
 use Rattle.chart.specs.Chart.{stateOf, LimitsFor}
 use Rattle.chart.specs.Soundness.{soundChart}
@@ -110,13 +108,6 @@ held-lines l small =
 
 -- ---- the sums of a sound chart's base
 
-sum-in-range : (kind : ℕ) (ws : List ℤ) → allOf (inRange kind) ws ≡ true → natAbs (sumOf ws) ≤ wordMost * length ws
-unfolding allOf sumOf
-sum-in-range kind [] h = omega arith
-sum-in-range kind (w ∷ ws) h =
-    let each = both (inRange kind w) (allOf (inRange kind) ws) h in
-    omega (arith, magnitude-plus w (sumOf ws), in-range-few kind w (each .0), sum-in-range kind ws (each .1))
-
 abbrev baseSums : List ℤ → Sums
 baseSums ws = record { n = length ws; t = sumOf ws; q = natAbs (sumOfSquares ws) }
 
@@ -125,21 +116,9 @@ unfolding sumsOf
 sums-same ws = rw squares-are
 
 bounded-sums : (kind : ℕ) (ws : List ℤ) → length ws ≤ baseMost → allInRange kind ws ≡ true → Bounded (baseSums ws)
-unfolding vOf allInRange
+unfolding allInRange
 bounded-sums kind ws few range =
-    let n = length ws in
-    let q = natAbs (sumOfSquares ws) in
-    let a = natAbs (sumOf ws) * natAbs (sumOf ws) in
-    let k = natAbs (vOf (sumsOf ws)) in
-    let v : pos n *ℤ pos q -ℤ sumOf ws *ℤ sumOf ws ≡ pos k = ap vOf (sums-same ws) ∙ v-natural ws in
-    let v′ : pos (n * q) -ℤ pos a ≡ pos k = rw (square-magnitude (sumOf ws)) at v in
-    let not-negative = agree (minus (of-pos {n = n * q}) (of-pos {n = a})) (of-pos {n = k}) v′ in
-    record {
-      few = few;
-      sum = omega (arith, sum-in-range kind ws range);
-      squares = omega (arith, in-range-squares kind ws range);
-      v = omega arith;
-    }
+    are-sums (baseSums ws) ws (sums-same ws) few (omega (arith, in-range-squares kind ws range)) .bounded
 
 module _ (c : Chart) (t : soundChart c ≡ true) where
   base-limits : LimitsFor (stateOf c) (record { kind = c .kind; sums = baseSums (stateOf c .base) })

@@ -6,13 +6,12 @@ use denote.Ref.{now}
 use lib.ListN.{length, take}
 use lib.Seq.{take-all, length-take-le}
 use Rattle.guide.specs.Sizes.{baseMost}
-use Rattle.limits.specs.Sums.{AreSums}
-use Rattle.limits.proofs.Summing.{of-none, count-is, of-one-more}
+use Rattle.limits.proofs.Summing.{Summed, of-none, count-is, of-one-more}
 use Rattle.limits.proofs.sums_of.Statement.{statement}
 use Rattle.limits.proofs.sums_of.Tie as tie
 
 abbrev Inv-loop : tie.InvT-loop
-Inv-loop words s₀ i₀ s i = (i ≤ length words) × AreSums (take i words) s
+Inv-loop words s₀ i₀ s i = (i ≤ length words) × Summed (take i words) s
 
 abbrev μ-loop : tie.MeasureT-loop
 μ-loop words s₀ i₀ s i = length words - i
@@ -31,11 +30,11 @@ passed : (c : tie.In-loop Inv-loop μ-loop) → c .before .loop .s .n < baseMost
 passed c =
     let l = c .before .loop in
     let words = now (c .before .before .args .words) in
-    let count = count-is (take (l .i) words) (l .s) (l .inv .1) in
+    let count = count-is (take (l .i) words) (l .s) (l .inv .1 .are) in
     omega (arith, length-take-le (l .i) words (l .inv .0), c .before .before .pre, c .loop-test .taken)
 
 with-word-requires : tie.Need-with-word-requires Inv-loop μ-loop
-with-word-requires c κs = (passed (c .before), c .before .before .loop .inv .1 .bounded)
+with-word-requires c κs = (passed (c .before), c .before .before .loop .inv .1 .are .bounded)
 
 add-i : tie.Need-add-i Inv-loop μ-loop
 add-i c = search needs
@@ -55,7 +54,7 @@ returns : tie.Need-returns Inv-loop μ-loop
 returns c =
     let l = c .before .loop in
     let words = now (c .before .before .args .words) in
-    rw (take-all (l .i) words (c .loop-test .left)) at (l .inv .1)
+    rw (take-all (l .i) words (c .loop-test .left)) at (l .inv .1 .are)
 
 pub sums-of-spec : {M : Type 1} → statement M
 sums-of-spec =

@@ -15,7 +15,7 @@ use mir.Facts.{toZ-ofZ}
 use Rattle.guide.specs.Sizes.{baseMost}
 use Rattle.chart.specs.Pad.{pad}
 use Rattle.chart.specs.Rejection.{withoutMarked}
-use Rattle.chart.proofs.Rounds.{Moved, moved-few, turn-marked, turn-kept}
+use Rattle.chart.proofs.Marks.{Moved, moved-few, turn-marked, turn-kept}
 use Rattle.chart.proofs.rejection.without_marked.Statement.{statement}
 use Rattle.chart.proofs.rejection.without_marked.Tie as tie
 
