@@ -40,7 +40,7 @@
 #include <stdint.h>
 
 /* The version, as `control_chart --version` prints it. */
-#define CONTROL_CHART_VERSION "1.2.0"
+#define CONTROL_CHART_VERSION "1.3.0"
 
 #ifdef __cplusplus
 extern "C" {
@@ -75,6 +75,7 @@ extern "C" {
 #define CONTROL_CHART_NOT_A_FORM        13 /* the bytes are not a stored form */
 #define CONTROL_CHART_NOT_SOUND         14 /* there is no chart, or it is not sound */
 #define CONTROL_CHART_NO_ROOM           15 /* the buffer is too short */
+#define CONTROL_CHART_TOO_FEW_STAND     16 /* fewer than 15 words stand after rejection */
 
 /* The bytes of the longest stored form: 32 words in the base and 366 in the series. */
 #define CONTROL_CHART_FORM_MOST 814
@@ -93,9 +94,10 @@ extern "C" {
 uint16_t control_chart_word(uint32_t kind, int64_t a, int64_t b, int64_t c, int16_t *word);
 
 /* Builds a new chart from `count` words of one kind, as control_chart_word gives them. Each round works out the control limits of the words
- * left and removes the words beyond them; the last round removes nothing. The form goes to the front of `chart`. *size: the number of its
- * bytes; *rounds: the number of rounds; *removed: the number of words removed. What `chart` and *size held before does not matter.
- * Refuses with 1, 2, 3, 15. */
+ * left and removes the words beyond them; the last round removes nothing. At least 15 words have to stand after it. The form goes to the
+ * front of `chart`. *size: the number of its bytes; *rounds: the number of rounds; *removed: the number of words removed. What `chart` and
+ * *size held before does not matter.
+ * Refuses with 1, 2, 3, 16, 15. */
 uint16_t control_chart_build(uint32_t kind, const int16_t *words, size_t count,
                              uint8_t *chart, size_t room, size_t *size,
                              size_t *rounds, size_t *removed);
@@ -127,9 +129,10 @@ uint16_t control_chart_reanalyse(uint8_t *chart, size_t room, size_t *size,
  * Refuses with 13, 14, 11. */
 uint16_t control_chart_correct(uint8_t *chart, size_t room, size_t *size);
 
-/* Makes a new base from the last 15 words of the base followed by the series, in rounds as in building. The series is then empty, and the
- * form is not longer than before. *size, *rounds and *removed as in building.
- * Refuses with 13, 14, 8, 12. */
+/* Makes a new base from the last words of the base followed by the series, in rounds as in building. It tries the last 15 words, then the
+ * last 16, and so on up to 32 or all there are, and takes the first of which at least 15 stand. The series is then empty, and the form is
+ * not longer than before. *size as in building; *rounds and *removed: those of the words taken.
+ * Refuses with 13, 14, 8, 12, 16. */
 uint16_t control_chart_renew(uint8_t *chart, size_t room, size_t *size,
                              size_t *rounds, size_t *removed);
 

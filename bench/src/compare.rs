@@ -5,14 +5,17 @@ use crate::engines::{form, Engine, Plain, Proved, FORM_MOST};
 
 const NAMES: [&str; 9] = ["word", "build", "post", "reanalyse", "correct", "renew", "lines", "against_lines", "check"];
 
+/// The numbers that a call can answer are below this.
+const NUMBERS: usize = 17;
+
 /// What each call can answer, by the header.
 const ANSWERS: [&[usize]; 9] = [
     &[0, 1, 5, 6, 7],
-    &[0, 1, 2, 3, 15],
+    &[0, 1, 2, 3, 16, 15],
     &[0, 13, 14, 8, 9, 4, 5, 6, 7, 15],
     &[0, 13, 14, 10, 4, 5, 6, 7],
     &[0, 13, 14, 11],
-    &[0, 13, 14, 8, 12],
+    &[0, 13, 14, 8, 12, 16],
     &[0, 13, 14, 15],
     &[0, 13, 14, 7, 15],
     &[0, 13, 14],
@@ -20,6 +23,10 @@ const ANSWERS: [&[usize]; 9] = [
 
 /// From this many calls on, every answer of the header must have occurred.
 const ENOUGH: u64 = 100_000;
+
+/// Distances of far words from the others. If fourteen words or more are equal, each of these is beyond the control limit of the words up to
+/// it. So the rounds of rejection remove them one by one, from the greatest on.
+const FAR: [i64; 18] = [1, 2, 3, 5, 7, 10, 14, 19, 24, 31, 39, 49, 60, 73, 88, 105, 125, 147];
 
 /// Bytes and doubles after each lent buffer that no call may touch.
 const GUARD: usize = 8;
@@ -158,6 +165,10 @@ impl Random {
         list[self.below(list.len() as u64) as usize]
     }
 
+    fn shuffle<T>(&mut self, list: &mut [T]) {
+        (1..list.len()).for_each(|i| list.swap(i, self.index(0, i)));
+    }
+
     fn sign(&mut self) -> i64 {
         self.pick(&[-1, 1])
     }
@@ -200,10 +211,11 @@ fn balanced(centre: i64, spread: i64, n: usize) -> Vec<i64> {
     (0..n).map(|i| if i == n - 1 && i % 2 == 0 { centre } else { centre + [spread, -spread][i % 2] }).collect()
 }
 
-/// What the posts aim at for a while, so that every verdict occurs.
+/// What the posts aim at for a while, so that every verdict occurs, and renewals that remove words.
 #[derive(Clone, Copy)]
 enum Aim {
     Calm,
+    Close,
     Run(i64),
     Side(i64),
     Warning(i64),
@@ -223,10 +235,14 @@ struct Comparison {
     aim: Aim,
     calls: u64,
     made: u64,
-    answers: [[u64; 16]; 9],
+    answers: [[u64; NUMBERS]; 9],
     verdicts: [u64; 5],
     reanalyses: [[u64; 2]; 5],
-    rounds: [u64; 33],
+    build_rounds: [u64; 33],
+    renewal_rounds: [u64; 33],
+    renewal_tails: [u64; 33],
+    short_base_posts: u64,
+    short_base_renewals: u64,
     longest_series: usize,
 }
 
@@ -285,16 +301,26 @@ impl Comparison {
 
     fn tally(&mut self, call: &Call, before: &Lent, answer: u16) {
         self.answers[call.number()][usize::from(answer)] += 1;
+        if answer != 0 {
+            return;
+        }
         let lent = &self.lent;
         match call {
-            Call::Post(_) if answer == 0 => {
+            Call::Post(_) => {
+                let view = View::of(lent);
                 self.verdicts[usize::from(lent.verdict)] += 1;
-                self.longest_series = self.longest_series.max(View::of(lent).series.len());
+                self.longest_series = self.longest_series.max(view.series.len());
+                self.short_base_posts += u64::from(view.base.len() < 15);
             }
-            Call::Reanalyse(_) if answer == 0 => {
+            Call::Reanalyse(_) => {
                 self.reanalyses[usize::from(View::of(before).head[2])][usize::from(lent.passed)] += 1;
             }
-            Call::Build { .. } | Call::Renew if answer == 0 => self.rounds[lent.rounds] += 1,
+            Call::Build { .. } => self.build_rounds[lent.rounds] += 1,
+            Call::Renew => {
+                self.renewal_rounds[lent.rounds] += 1;
+                self.renewal_tails[View::of(lent).base.len() + lent.removed] += 1;
+                self.short_base_renewals += u64::from(View::of(before).base.len() < 15);
+            }
             _ => {}
         }
     }
@@ -315,7 +341,7 @@ impl Comparison {
     /// Words for building: tight, equal, usual and wide ones, some with words far away so that rejection takes several rounds.
     fn base_words(&mut self, kind: u32) -> Vec<i16> {
         let random = &mut self.random;
-        let n = random.pick(&[15, 15, 16, 20, 31, 32, 32]);
+        let n = random.pick(&[15, 15, 16, 17, 20, 25, 31, 32, 32]);
         let least = if kind == 1 { 0 } else { -20_000 };
         let centre = match (random.below(4), kind) {
             (0, _) => random.within(least, 20_000),
@@ -336,6 +362,15 @@ impl Comparison {
                 words[at] = centre + side * distance;
                 distance *= random.within(3, 14);
             }
+        }
+        if random.one_in(8) {
+            // Equal words and some far words, in any order. Rejection takes a round for each of the far ones.
+            let (scale, side) = (random.pick(&[1, 1, 2, 30]), if kind == 1 { 1 } else { random.sign() });
+            words = vec![centre; n];
+            for (word, distance) in words.iter_mut().zip(&FAR[..random.index(0, n - 14)]) {
+                *word += side * scale * distance;
+            }
+            random.shuffle(&mut words);
         }
         if random.one_in(6) {
             let far = random.index(0, n - 1);
@@ -387,6 +422,51 @@ impl Comparison {
         form([kind, 0, 0], &base, &series)
     }
 
+    /// A form whose renewal often needs a long tail, or has none that will do. Its last words are equal, with far words before them.
+    fn far_form(&mut self) -> Vec<u8> {
+        let random = &mut self.random;
+        let kind = random.pick(&[1, 2, 3]);
+        let (scale, side) = (random.pick(&[1, 1, 2, 30]), if kind == 1 { 1 } else { random.sign() });
+        let centre = random.pick(&[0, 10_000]);
+        let words = |distances: &[i64]| distances.iter().map(|distance| (centre + side * scale * distance) as i16).collect::<Vec<i16>>();
+        let short = random.one_in(3);
+        let count = random.index(1, if short { 4 } else { 18 });
+        let mut far: Vec<i64> = FAR[..count].iter().rev().copied().collect();
+        match random.below(5) {
+            // A greatest word that occurs twice stays, and all words below it.
+            0 | 1 => far.insert(0, far[0]),
+            2 => far.chunks_mut(2).for_each(|pair| pair.reverse()),
+            3 => random.shuffle(&mut far),
+            _ => {}
+        }
+        let equal = random.pick(&[13, 14, 14, 14, 14, 15]);
+        if short {
+            // The far words are in the base. Base and series together have few words.
+            if random.one_in(2) {
+                far = (0..2).map(|_| random.within(50, 100)).collect();
+            }
+            let of_base = random.index(10 - far.len(), equal);
+            far.resize(far.len() + of_base, 0);
+            return form([kind, 0, 0], &words(&far), &words(&vec![0; equal - of_base]));
+        }
+        let n = random.pick(&[10, 11, 12, 13, 14, 15, 16, 31, 32]);
+        let base = balanced(60, 60, n);
+        far.resize(far.len() + equal, 0);
+        let mut head = [kind, 0, 0];
+        if random.one_in(8) {
+            // The last word is beyond the control limit and open.
+            far.push(300);
+            head = [kind, random.pick(&[1, 2]), 1];
+        }
+        let before = match random.below(4) {
+            0 | 1 => 0,
+            2 => random.index(1, 9),
+            _ => 366 - far.len(),
+        };
+        let series: Vec<i64> = (0..before).map(|_| random.within(0, 150)).chain(far).collect();
+        form(head, &words(&base), &words(&series))
+    }
+
     /// A word near a limit, the mean, or the mean and one S.
     fn edge(&mut self, view: &View) -> i64 {
         let m = self.random.within(-3, 3) as f64;
@@ -396,14 +476,25 @@ impl Comparison {
     fn word_to_post(&mut self, view: &View) -> i64 {
         if self.random.one_in(14) {
             let side = self.random.sign();
-            let aims =
-                [Aim::Calm, Aim::Calm, Aim::Run(side), Aim::Run(side), Aim::Side(side), Aim::Warning(side), Aim::Edge, Aim::Anywhere];
-            self.aim = self.random.pick(&aims);
+            self.aim = self.random.pick(&[
+                Aim::Calm,
+                Aim::Calm,
+                Aim::Close,
+                Aim::Run(side),
+                Aim::Run(side),
+                Aim::Side(side),
+                Aim::Warning(side),
+                Aim::Edge,
+                Aim::Anywhere,
+            ]);
         }
         let random = &mut self.random;
         let aimed = |distance: f64| (view.mean + distance * view.s).round() as i64;
         match self.aim {
             Aim::Calm => aimed(random.real(-1.2, 1.2)),
+            // A word that is far from its neighbours, but within the chart's limits, does not stand at the next renewal.
+            Aim::Close if random.one_in(10) => aimed(random.sign() as f64 * random.real(0.5, 3.0)),
+            Aim::Close => aimed(random.real(-0.05, 0.05)),
             Aim::Run(way) => {
                 let step = 1 + random.within(0, (view.s / 5.0) as i64);
                 match view.series.last() {
@@ -660,8 +751,16 @@ impl Comparison {
 
     /// A chart is built or read, then called many times.
     fn session(&mut self) -> Result<(), Stop> {
-        if self.random.one_in(3) {
-            let bytes = self.made_form();
+        if self.random.one_in(2) {
+            let far = self.random.one_in(3);
+            if far {
+                for _ in 0..self.random.below(9) {
+                    let bytes = self.far_form();
+                    self.set_form(&bytes);
+                    self.call(Call::Renew)?;
+                }
+            }
+            let bytes = if far { self.far_form() } else { self.made_form() };
             self.set_form(&bytes);
             if self.call(Call::Check)? != 0 {
                 self.call(Call::Correct)?;
@@ -688,7 +787,7 @@ impl Comparison {
 
     fn print(&self) {
         print!("{:<14}", "calls answering");
-        (0..16).for_each(|answer| print!("{answer:>7}"));
+        (0..NUMBERS).for_each(|answer| print!("{answer:>7}"));
         println!();
         for (name, answers) in NAMES.iter().zip(&self.answers) {
             print!("{name:<15}");
@@ -703,7 +802,10 @@ impl Comparison {
         for (verdict, [failed, passed]) in self.reanalyses.iter().enumerate().skip(1) {
             println!("reanalyses of verdict {verdict}: {passed} passed, {failed} failed");
         }
-        println!("builds and renewals by rounds: {}", list(&self.rounds));
+        println!("builds by rounds: {}", list(&self.build_rounds));
+        println!("renewals by rounds: {}", list(&self.renewal_rounds));
+        println!("renewals by the words used: {}", list(&self.renewal_tails));
+        println!("charts with a base of 10 to 14 words: {} posts, {} renewals", self.short_base_posts, self.short_base_renewals);
         println!("the longest series after a post: {} words", self.longest_series);
     }
 
@@ -712,14 +814,19 @@ impl Comparison {
         let mut missing = Vec::new();
         for (name, (answers, expected)) in NAMES.iter().zip(self.answers.iter().zip(ANSWERS)) {
             missing.extend(expected.iter().filter(|&&a| answers[a] == 0).map(|a| format!("{name} never answered {a}")));
-            missing.extend((0..16).filter(|a| answers[*a] > 0 && !expected.contains(a)).map(|a| format!("{name} answered {a}")));
+            missing.extend((0..NUMBERS).filter(|a| answers[*a] > 0 && !expected.contains(a)).map(|a| format!("{name} answered {a}")));
         }
         missing.extend((0..5).filter(|&v| self.verdicts[v] == 0).map(|v| format!("no post had verdict {v}")));
         for (verdict, [failed, passed]) in self.reanalyses.iter().enumerate().skip(1) {
             missing.extend((*failed == 0).then(|| format!("no reanalysis of verdict {verdict} failed")));
             missing.extend((*passed == 0).then(|| format!("no reanalysis of verdict {verdict} passed")));
         }
-        missing.extend((1..5).filter(|&rounds| self.rounds[rounds] == 0).map(|rounds| format!("no rejection of {rounds} rounds")));
+        for (what, rounds) in [("build", self.build_rounds), ("renewal", self.renewal_rounds)] {
+            missing.extend((1..5).filter(|&n| rounds[n] == 0).map(|n| format!("no {what} of {n} rounds")));
+        }
+        missing.extend((15..33).filter(|&n| self.renewal_tails[n] == 0).map(|n| format!("no renewal used {n} words")));
+        missing.extend((self.short_base_posts == 0).then(|| "no post to a base of 10 to 14 words".to_string()));
+        missing.extend((self.short_base_renewals == 0).then(|| "no renewal of a base of 10 to 14 words".to_string()));
         missing.extend((self.longest_series < 366).then(|| "no series of 366 words".to_string()));
         missing
     }
@@ -733,10 +840,14 @@ pub fn run(calls: u64, seed: u64) -> Result<(), String> {
         aim: Aim::Calm,
         calls,
         made: 0,
-        answers: [[0; 16]; 9],
+        answers: [[0; NUMBERS]; 9],
         verdicts: [0; 5],
         reanalyses: [[0; 2]; 5],
-        rounds: [0; 33],
+        build_rounds: [0; 33],
+        renewal_rounds: [0; 33],
+        renewal_tails: [0; 33],
+        short_base_posts: 0,
+        short_base_renewals: 0,
         longest_series: 0,
     };
     loop {

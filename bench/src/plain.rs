@@ -8,9 +8,11 @@ use std::ops::RangeInclusive;
 
 const BASE: RangeInclusive<usize> = 10..=32;
 const BASE_MOST: usize = 32;
-const BUILD_LEAST: usize = 15;
 const SERIES_MOST: usize = 366;
 const READINGS: RangeInclusive<i64> = 0..=1_000_000_000;
+
+/// A build and a renewal need this many words, and this many have to stand after rejection. Only a form can hold a shorter base.
+const BUILD_LEAST: usize = 15;
 
 /// The limits are this many S away from the mean.
 const WARNING: i64 = 2;
@@ -52,6 +54,7 @@ enum Refusal {
     NoForm = 13,
     Unsound = 14,
     TooShort = 15,
+    TooFewStand = 16,
 }
 
 #[derive(Clone, Copy, PartialEq, Eq)]
@@ -337,11 +340,22 @@ fn write_fresh(buffer: &mut [u8], kind: Kind, base: &[i16]) -> Result<usize, Ref
     Ok(size)
 }
 
-/// A base after rejection, at the front of its array.
+/// What rejection leaves of some words: those that stand, at the front of their array.
 struct Rejected {
     words: [i16; BASE_MOST],
     left: usize,
     rounds: usize,
+    removed: usize,
+}
+
+impl Rejected {
+    fn standing(&self) -> &[i16] {
+        &self.words[..self.left]
+    }
+
+    fn enough_stand(&self) -> bool {
+        self.left >= BUILD_LEAST
+    }
 }
 
 /// Removes the words beyond the control limits, all of a round together, until a round removes nothing. Takes at most 32 words. They are
@@ -353,7 +367,8 @@ fn reject(kind: Kind, given: impl Iterator<Item = i16>) -> Rejected {
         words[left] = word;
         left += 1;
     }
-    let mut sums = Sums::of(words[..left].iter().copied());
+    let count = left;
+    let mut sums = Sums::of(words[..count].iter().copied());
     let mut rounds = 0;
     loop {
         rounds += 1;
@@ -368,10 +383,24 @@ fn reject(kind: Kind, given: impl Iterator<Item = i16>) -> Rejected {
             }
         }
         if kept == left {
-            return Rejected { words, left, rounds };
+            return Rejected { words, left, rounds, removed: count - left };
         }
         left = kept;
     }
+}
+
+/// The last n words of the base followed by the series.
+fn tail<'a>(base: &'a [Stored], series: &'a [Stored], n: usize) -> impl Iterator<Item = i16> + 'a {
+    let of_series = n.min(series.len());
+    let of_base = n - of_series;
+    words(&base[base.len() - of_base..]).chain(words(&series[series.len() - of_series..]))
+}
+
+/// Rejects the last 15 words of the base followed by the series, then the last 16, and so on up to 32 or all there are. Answers the first
+/// that leaves enough standing.
+fn reject_tails(kind: Kind, base: &[Stored], series: &[Stored]) -> Option<Rejected> {
+    let longest = (base.len() + series.len()).min(BASE_MOST);
+    (BUILD_LEAST..=longest).map(|n| reject(kind, tail(base, series, n))).find(Rejected::enough_stand)
 }
 
 /// The number that a call answers.
@@ -396,9 +425,12 @@ pub fn build(kind: u32, words: &[i16], chart: &mut [u8], size: &mut usize, round
             return Err(Refusal::BaseWordRange);
         }
         let base = reject(kind, words.iter().copied());
-        *size = write_fresh(chart, kind, &base.words[..base.left])?;
+        if !base.enough_stand() {
+            return Err(Refusal::TooFewStand);
+        }
+        *size = write_fresh(chart, kind, base.standing())?;
         *rounds = base.rounds;
-        *removed = words.len() - base.left;
+        *removed = base.removed;
         Ok(())
     })
 }
@@ -478,18 +510,15 @@ pub fn renew(chart: &mut [u8], size: &mut usize, rounds: &mut usize, removed: &m
         if read.status != FREE {
             return Err(Refusal::NotFree);
         }
-        let (kind, base, series) = (read.kind, read.base, read.series);
-        if base.len() + series.len() < BUILD_LEAST {
+        if read.base.len() + read.series.len() < BUILD_LEAST {
             return Err(Refusal::TooFewWords);
         }
-        let of_series = series.len().min(BUILD_LEAST);
-        let of_base = BUILD_LEAST - of_series;
-        let base = words(&base[base.len() - of_base..]);
-        let series = words(&series[series.len() - of_series..]);
-        let renewed = reject(kind, base.chain(series));
-        *size = write_fresh(chart, kind, &renewed.words[..renewed.left])?;
-        *rounds = renewed.rounds;
-        *removed = BUILD_LEAST - renewed.left;
+        let kind = read.kind;
+        let base = reject_tails(kind, read.base, read.series).ok_or(Refusal::TooFewStand)?;
+        // The new form is never longer than the old one, so the buffer has room.
+        *size = write_fresh(chart, kind, base.standing())?;
+        *rounds = base.rounds;
+        *removed = base.removed;
         Ok(())
     })
 }

@@ -13,7 +13,8 @@ impl Desk {
         let (mut rounds, mut removed) = (91, 92);
         let answer = super::build(kind, words, &mut desk.chart, &mut desk.size, &mut rounds, &mut removed);
         assert_eq!(answer, 0);
-        assert_eq!(super::check(desk.form()), 0);
+        assert_eq!((desk.check(), desk.base().len() + removed), (0, words.len()));
+        assert!(desk.base().len() >= 15);
         (desk, rounds, removed)
     }
 
@@ -44,9 +45,16 @@ impl Desk {
         (self.chart[6].into(), self.chart[8].into())
     }
 
+    fn base(&self) -> Vec<i16> {
+        self.words(14, 12 + usize::from(self.chart[10]))
+    }
+
     fn series(&self) -> Vec<i16> {
-        let at = 14 + usize::from(self.chart[10]);
-        self.chart[at + 2..self.size].chunks(2).map(|w| i16::from_le_bytes([w[0], w[1]])).collect()
+        self.words(16 + usize::from(self.chart[10]), self.size)
+    }
+
+    fn words(&self, from: usize, to: usize) -> Vec<i16> {
+        self.chart[from..to].chunks(2).map(|w| i16::from_le_bytes([w[0], w[1]])).collect()
     }
 
     fn kind(&self) -> u32 {
@@ -114,12 +122,27 @@ impl Desk {
         let before = self.clone();
         let (mut rounds, mut removed) = (91, 92);
         match super::renew(&mut self.chart, &mut self.size, &mut rounds, &mut removed) {
-            0 => Ok((rounds, removed)),
+            0 => {
+                assert_eq!((self.check(), self.state(), self.series()), (0, (0, 0), vec![]));
+                assert!(self.base().len() >= 15);
+                Ok((rounds, removed))
+            }
             refusal => {
                 assert_eq!((&before, 91, 92), (&*self, rounds, removed));
                 Err(refusal)
             }
         }
+    }
+
+    /// A renewal that is accepted: the number of words that it used, the rounds and the number removed. The words that stand are from the
+    /// end of the base and the series, in their order.
+    fn renew_used(&mut self) -> (usize, usize, usize) {
+        let given = [self.base(), self.series()].concat();
+        let (rounds, removed) = self.renew().unwrap();
+        let used = self.base().len() + removed;
+        let mut tail = given[given.len() - used..].iter();
+        assert!(self.base().iter().all(|word| tail.any(|given| given == word)));
+        (used, rounds, removed)
     }
 
     /// The lines times 256.
@@ -238,25 +261,24 @@ fn building() {
     assert_eq!((rounds, removed, desk.size, desk.chart[48..].to_vec()), (1, 0, 48, vec![0xEE; 814 - 48]));
     assert_eq!(desk, Desk { chart: [Desk::of([2, 0, 0], &base_a(), &[]).form(), &[0xEE; 814 - 48]].concat(), size: 48 });
     assert_eq!(desk.lines(), [10_000, 9800, 10_200, 9700, 10_300].map(|word| 256 * word));
-    let (desk, rounds, removed) = Desk::build(1, &times(&[(1000, 14), (2000, 1)]));
-    assert_eq!((rounds, removed, desk.size), (2, 1, 18 + 2 * 14));
+    let (desk, rounds, removed) = Desk::build(1, &times(&[(1000, 15), (2000, 1)]));
+    assert_eq!((rounds, removed, desk.base()), (2, 1, vec![1000; 15]));
     assert_eq!(desk.lines(), [256_000; 3]);
     assert_eq!(desk.clone().post([1001]), [1]);
-    assert_eq!(desk.clone().renew(), Err(12));
     // Words are two bytes, the lower first.
     assert_eq!(Desk::build(2, &[4135; 15]).0.chart[14..16], [0x27, 0x10]);
     assert_eq!(Desk::build(2, &[10_000; 15]).0.chart[14..16], [0x10, 0x27]);
     // Sound is not the same as reachable.
     assert_eq!(Desk::build(2, &[-1; 15]).1, 1);
     // Kind 1 has no lower limit.
-    let low = times(&[(1000, 14), (0, 1)]);
+    let low = times(&[(1000, 15), (0, 1)]);
     assert_eq!((Desk::build(1, &low).1, Desk::build(1, &low).2), (1, 0));
     assert_eq!((Desk::build(2, &low).1, Desk::build(2, &low).2), (2, 1));
-    // A round removes all words beyond a limit together. A base of ten words, the fewest, is reached.
+    // A round removes all words beyond a limit together. A base of fifteen words, the fewest, is reached.
     let (_, rounds, removed) = Desk::build(2, &times(&[(10_000, 13), (10_001, 13), (10_050, 1), (10_051, 1)]));
     assert_eq!((rounds, removed), (2, 2));
-    let (desk, rounds, removed) = Desk::build(1, &[0, 0, 0, 0, 0, 0, 0, 0, 0, 0, 1, 12, 144, 1728, 20_000]);
-    assert_eq!((rounds, removed, desk.size), (6, 5, 38));
+    let (desk, rounds, removed) = Desk::build(1, &[&[0; 15][..], &[1, 12, 144, 1728, 20_000]].concat());
+    assert_eq!((rounds, removed, desk.size), (6, 5, 48));
 }
 
 #[test]
@@ -266,6 +288,15 @@ fn refused_building() {
     assert_eq!(refused_build(1, &times(&[(0, 14), (-1, 1)]), 0), 3);
     assert_eq!((refused_build(2, &[20_001; 15], 0), refused_build(3, &[-20_001; 32], 0)), (3, 3));
     assert_eq!((refused_build(2, &base_a(), 47), refused_build(2, &base_a(), 9)), (15, 15));
+    // Too few words stand at the end: after 1, 2 and 3, before 15.
+    let one_far = times(&[(1000, 14), (2000, 1)]);
+    assert_eq!([814, 46, 45, 0].map(|room| refused_build(1, &one_far, room)), [16; 4]);
+    assert_eq!(refused_build(2, &times(&[(1000, 14), (0, 1)]), 814), 16);
+    assert_eq!(Desk::build(1, &times(&[(1000, 14), (0, 1)])).2, 0);
+    assert_eq!(refused_build(1, &[&[0; 14][..], &[1, 12, 144, 1728, 20_000]].concat(), 814), 16);
+    assert_eq!((refused_build(4, &one_far, 0), refused_build(1, &one_far[1..], 0)), (1, 2));
+    assert_eq!(refused_build(1, &[&one_far[..], &[-1]].concat(), 0), 3);
+    assert_eq!([47, 9].map(|room| refused_build(1, &times(&[(1000, 15), (2000, 1)]), room)), [15; 2]);
     let (mut chart, mut size, mut rounds, mut removed) = ([0xEE; 50], 0, 0, 0);
     assert_eq!(super::build(2, &base_a(), &mut chart, &mut size, &mut rounds, &mut removed), 0);
     assert_eq!((size, &chart[48..]), (48, &[0xEE; 2][..]));
@@ -406,8 +437,88 @@ fn renewal() {
     assert_eq!(Desk::of([1, 0, 0], &small, &[1000; 4]).renew(), Err(12));
     assert_eq!(Desk::of([1, 0, 0], &small, &[1000; 5]).renew(), Ok((1, 0)));
     assert_eq!(Desk::of([1, 0, 0], &small, &[1000, 1000, 1000, 1000, 0]).renew(), Ok((1, 0)));
-    let wide = times(&[(9000, 8), (11_000, 8)]);
-    assert_eq!(Desk::of([2, 0, 0], &wide, &times(&[(10_000, 14), (11_000, 1)])).renew(), Ok((2, 1)));
+    assert_eq!(Desk::of([1, 1, 1], &small, &[1001]).renew(), Err(8));
+}
+
+/// The base 0 eight times and 300 eight times, kind 1, with a series.
+fn wide(series: &[i16]) -> Desk {
+    Desk::of([1, 0, 0], &times(&[(0, 8), (300, 8)]), series)
+}
+
+#[test]
+fn renewal_tails() {
+    // The tail grows until 15 words stand. Rounds and removals are those of the tail that is used.
+    let (low_high, word) = (times(&[(9000, 8), (11_000, 8)]), 10_000);
+    let mut desk = Desk::of([2, 0, 0], &low_high, &times(&[(word, 15), (11_000, 1)]));
+    assert_eq!((desk.renew_used(), desk.base()), ((16, 2, 1), vec![word; 15]));
+    let mut desk = Desk::of([2, 0, 0], &low_high, &times(&[(word, 14), (11_000, 1)]));
+    assert_eq!((desk.renew_used(), desk.base()), ((16, 1, 0), times(&[(11_000, 1), (word, 14), (11_000, 1)])));
+    // The last 15 words would answer 2 rounds and 1 removed.
+    let mut desk = Desk::build(1, &times(&[(1, 2), (0, 13)])).0;
+    desk.post([0]);
+    assert_eq!((desk.renew_used(), desk.base()), ((16, 1, 0), times(&[(1, 2), (0, 14)])));
+    // A longer tail can leave fewer words: the tails of 15, 16, 17 and 18 words leave 14, 15, 14 and 18.
+    let mut desk = Desk::build(1, &[15, 0, 0, 0, 6, 15, 0, 0, 0, 4, 0, 0, 0, 0, 0]).0;
+    desk.post([0; 3]);
+    assert_eq!((desk.renew_used(), desk.base()), ((16, 2, 1), vec![0, 0, 6, 0, 0, 0, 4, 0, 0, 0, 0, 0, 0, 0, 0]));
+    // Only the longest tail will do.
+    let mut desk = wide(&[&[1, 105, 125, 73, 88, 49, 60, 31, 39, 19, 24, 10, 14, 5, 7, 2, 3, 1][..], &[0; 14]].concat());
+    assert_eq!((desk.renew_used(), desk.base()), ((32, 17, 16), times(&[(1, 2), (0, 14)])));
+}
+
+#[test]
+fn no_tail_will_do() {
+    // It happens to a chart with a base of 15. With one more post a tail will do.
+    let hundred = times(&[(100, 1), (70, 1), (0, 13)]);
+    let mut desk = Desk::build(1, &hundred).0;
+    assert_eq!((desk.post([0]), desk.renew()), (vec![0], Err(16)));
+    assert_eq!((desk.post([0]), desk.renew_used()), (vec![0], (15, 1, 0)));
+    // 8 comes before 16.
+    let mut desk = Desk::build(1, &hundred).0;
+    assert_eq!((desk.post([0, 20_000]), desk.renew()), (vec![0, 1], Err(8)));
+    // The last 33 words would do, but a tail ends at 32.
+    let far = [125, 147, 88, 105, 60, 73, 39, 49, 24, 31, 14, 19, 7, 10, 3, 5, 1, 2];
+    let series = [&[1][..], &far, &[0; 14]].concat();
+    assert_eq!((series.len(), wide(&series).renew()), (33, Err(16)));
+    // A full series that cannot be renewed takes no post either. A new build is needed.
+    let series = [&[150; 334][..], &far, &[0; 14]].concat();
+    let mut desk = wide(&series);
+    assert_eq!((series.len(), desk.check(), desk.renew()), (366, 0, Err(16)));
+    assert_eq!(desk.post_reading(1, reading(1, 0)), Err(9));
+    // It never happens to a base of 15 or more with an empty series, because the whole base is a tail that stands. Here no shorter one
+    // will do: the greatest word occurs twice.
+    assert_eq!(Desk::build(1, &hundred).0.renew_used(), (15, 1, 0));
+    let far = [1, 2, 3, 5, 7, 10, 14, 19, 24, 31, 39, 49, 60, 73, 88, 105, 125];
+    for k in 1..=17 {
+        let falling = far[..k].iter().rev().copied();
+        let base: Vec<i16> = [far[k - 1]].into_iter().chain(falling).chain([0; 14]).collect();
+        let mut desk = Desk::build(1, &base).0;
+        assert_eq!((desk.renew_used(), desk.base()), ((15 + k, 1, 0), base));
+    }
+}
+
+/// A form can hold a base of 10 to 14 words, which no build and no renewal makes. It is posted to and renewed.
+#[test]
+fn short_bases() {
+    let mut desk = Desk::of([1, 0, 0], &[1000; 14], &[]);
+    assert_eq!((desk.check(), desk.lines()), (0, vec![256_000; 3]));
+    assert_eq!(desk.clone().post([1001]), [1]);
+    assert_eq!(desk.renew(), Err(12));
+    assert_eq!(desk.post([1000]), [0]);
+    assert_eq!((desk.renew_used(), desk.base()), ((15, 1, 0), vec![1000; 15]));
+    for n in 10..15 {
+        let mut desk = Desk::of([2, 0, 0], &[9900, 10_100].repeat(7)[..n], &[]);
+        for _ in n..15 {
+            assert_eq!((desk.check(), desk.renew()), (0, Err(12)));
+            desk.post([10_000]);
+        }
+        assert_eq!(desk.renew_used(), (15, 1, 0));
+        assert_eq!(desk.renew_used(), (15, 1, 0));
+    }
+    // Too few words stand, and the chart stays as it was. With one more post a tail will do.
+    let mut desk = Desk::of([1, 0, 0], &times(&[(100, 1), (70, 1), (0, 11)]), &[0; 3]);
+    assert_eq!((desk.check(), desk.renew()), (0, Err(16)));
+    assert_eq!((desk.post([0]), desk.renew_used()), (vec![0], (15, 1, 0)));
 }
 
 #[test]

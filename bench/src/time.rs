@@ -59,6 +59,9 @@ fn rows() -> Vec<Row> {
     // The words far away are removed one by one.
     let far = [10_060, 10_400, 12_600, 20_000].into_iter();
     let several: Vec<i16> = (0..28).map(|i| 10_000 + 3 * (i % 7)).chain(far).collect();
+    // Only the tail of 32 words will do.
+    let far_words = [1, 105, 125, 73, 88, 49, 60, 31, 39, 19, 24, 10, 14, 5, 7, 2, 3, 1].into_iter();
+    let long_tail = form([1, 0, 0], &[0, 300].repeat(8), &far_words.chain([0; 14]).collect::<Vec<i16>>());
     let check = (2, 1001, 1000, 0);
     let row = |name, text, what, form: Vec<u8>| Row { name, text, what, words: Vec::new(), form, reading: check };
     vec![
@@ -76,6 +79,7 @@ fn rows() -> Vec<Row> {
         row("correct-full", "correction, form of 814 bytes", What::Correct, full(2, 3)),
         row("renew-10", "renewal, series of 10 words", What::Renew, free(10)),
         row("renew-360", "renewal, series of 360 words", What::Renew, free(360)),
+        row("renew-18", "renewal, 18 tails tried", What::Renew, long_tail),
         row("lines-kind-2", "five lines, form of 68 bytes", What::Lines, free(10)),
         row("lines-kind-1", "three lines, form of 54 bytes", What::Lines, duplicates),
         row("against-lines", "a word against the lines", What::AgainstLines, free(10)),

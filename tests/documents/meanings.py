@@ -14,8 +14,8 @@ FIRST_VERDICT = "#define CONTROL_CHART_VERDICT_"
 DEFINE = re.compile(r"#define +(CONTROL_CHART_\w+) +([0-9]+) +/\* (.*?) \*/ *")
 VERSION = re.compile(r'#define +CONTROL_CHART_VERSION +"([^"]*)"')
 
-REFUSALS_EXPECTED = range(0, 16)
-REFUSALS_OF_HELP = range(1, 15)  # the buffers of the program are long enough, so 15 does not occur
+REFUSALS_EXPECTED = range(0, 17)
+REFUSALS_OF_HELP = tuple(range(1, 15)) + (16,)  # the buffers of the program are long enough, so 15 does not occur
 VERDICTS_EXPECTED = range(0, 5)
 ASKED_OF_LIBRARY = range(0, 21)
 

@@ -197,7 +197,7 @@ Verdict 4 is for kinds 2 and 3.
 refused N:
 %s
 """ % ("\n".join("%2d  %s" % row for row in interface.VERDICT_TEXTS.items()),
-       "\n".join("%2d  %s" % row for row in interface.REFUSAL_TEXTS.items() if 0 < row[0] < 15))
+       "\n".join("%2d  %s" % row for row in interface.REFUSAL_TEXTS.items() if row[0] not in (0, 15)))
 
 # The program of the small tree knows the commands of its documents, and nothing else.
 PROGRAM = """\
@@ -363,7 +363,7 @@ CASES = [
     case("a text of REFUSALS", meanings, "docs/REFUSALS.md", "the divisor is 0", "the divisor is nil", "docs/REFUSALS.md:13: found"),
     case("a missing refusal", meanings, "docs/REFUSALS.md", "| 6 |", "| six |", "docs/REFUSALS.md: found no row of refusal 6"),
     case("a refusal twice", meanings, "docs/REFUSALS.md", "| 6 |", "| 5 |", "docs/REFUSALS.md: found more than one row of refusal 5"),
-    case("a refusal too many", meanings, "docs/REFUSALS.md", "| 6 |", "| 16 |", "docs/REFUSALS.md:13: found refusal 16"),
+    case("a refusal too many", meanings, "docs/REFUSALS.md", "| 6 |", "| 17 |", "docs/REFUSALS.md:13: found refusal 17"),
     case("a text of help", meanings, "bin/help", "the divisor is 0", "the divisor is nil", "control_chart help:21: found refusal 6"),
     case("a verdict of RULES", meanings, "docs/RULES.md", "| none |", "| no |", "docs/RULES.md:5: found verdict 0: no"),
     case("no table of verdicts", meanings, "docs/RULES.md", "| Verdict |", "| No. |", "docs/RULES.md: found no table of verdicts"),
@@ -418,7 +418,7 @@ class SmallLibrary:
         return texts[function](*number, interface.TEXT_MOST)
 
 
-LIBRARY_CASES = (("control_chart_refusal_text", 8), ("control_chart_refusal_text", 16), ("control_chart_verdict_text", 4),
+LIBRARY_CASES = (("control_chart_refusal_text", 8), ("control_chart_refusal_text", 17), ("control_chart_verdict_text", 4),
                  ("control_chart_verdict_text", 5), ("control_chart_version",))
 
 

@@ -4,6 +4,7 @@ from math import gcd, isqrt
 
 import commands
 import model
+from model import Chart
 
 KINDS = (1, 2, 3)
 
@@ -244,6 +245,47 @@ def random_base(rng, kind, size=None, centre=None, spread=None):
     return [min(20000, max(least, word)) for word in words]
 
 
+def standing(kind, words):
+    """Rejection a second time: the words that stand at the end, and the rounds. Every round sums its words afresh."""
+    words = tuple(words)
+    rounds = 1
+    while True:
+        n, total, v = model.figures(words)
+        left = tuple(word for word in words
+                     if (n * word - total) ** 2 * (n - 1) <= 9 * n * v or kind == 1 and n * word <= total)
+        if len(left) == n:
+            return words, rounds
+        words, rounds = left, rounds + 1
+
+
+def tail_lengths(kind, words):
+    """document 02, Q-4: for each length from 15 to 32 that the words allow, how many words of that tail stand."""
+    return {count: len(standing(kind, words[len(words) - count:])[0]) for count in range(15, 33) if count <= len(words)}
+
+
+def tail_used(kind, words):
+    """document 02, Q-4, a second time: the least length of a tail of which 15 words stand. None if no tail will do.
+
+    It looks at all tails. So it uses no order of trying, and no law between tails of different lengths.
+    """
+    return min((count for count, left in tail_lengths(kind, words).items() if left >= 15), default=None)
+
+
+def far_words(kind, near, ways, count):
+    """document 02, Q-4: words far from the near ones, the farthest first, each as near as it can be.
+
+    Rejection removes all of them and leaves the near words, however many of the last far words stand in front of
+    these. The ways (1 above, -1 below) are taken in turn, from the last far word on.
+    """
+    centre, found, size = near[-1], (), 1
+    for place in range(count):
+        way = ways[place % len(ways)]
+        while standing(kind, (centre + way * size, *found, *near))[0] != tuple(near):
+            size += 1
+        found = (centre + way * size, *found)
+    return found
+
+
 def trend(chart):
     """The last seven words as a trend: rising or falling; above, below or across the mean. None without a trend."""
     seven = chart.series[-7:]
@@ -282,6 +324,9 @@ def applying(chart, command, fields):
         found.append(11)
     if command == "renew" and len(chart.base + chart.series) < 15:
         found.append(12)
+    if command == "renew" and tail_used(chart.kind, chart.base + chart.series) is None:
+        # document 02, Q-4: no tail will do. With fewer than 15 words there is no tail at all.
+        found.append(16)
     if command == "word" and fields[0] not in KINDS:
         found.append(1)
     if command in ("post", "reanalyse") and fields[0] != chart.kind:
@@ -305,6 +350,9 @@ def applying(chart, command, fields):
             found.append(2)
         if not all(model.in_range(kind, word) for word in words):
             found.append(3)
+        if kind in KINDS and len(standing(kind, words)[0]) < 15:
+            # document 02, Q-4: fewer than 15 words stand. With fewer than 15 words it is always so.
+            found.append(16)
     return found
 
 
@@ -352,6 +400,16 @@ class Record:
     def build(self, kind, words):
         return self.do("build", kind, *words)
 
+    def build_or_read(self, kind, words):
+        """A build. document 02, Q-4: if it is refused with 16, the chart of the words that stand is read instead.
+
+        So a chart with a base of 10 to 14 words is there, as it was when such a build was accepted.
+        """
+        answer = self.build(kind, words)
+        if answer == b"refused 16":
+            assert self.read_chart(Chart(kind, standing(kind, words)[0], (), 0, 0)) == b"read"
+        return answer
+
     def store(self):
         """The stored form of the chart, in hex digits."""
         return model.stored_form(self.chart).hex()
@@ -381,6 +439,10 @@ class Record:
                 for other in reasons[1:]:
                     self.count("%s refused %d where %d applies too" % (command, reasons[0], other))
                 assert reasons[0] == int(text.split()[1]), (line, text, reasons)
+                if command == "build" and reasons[0] == 16:
+                    self.note_build(numbers[0], numbers[1:])
+                elif command == "renew" and reasons[0] == 16:
+                    self.note_no_tail(before)
             return
         if command in ("word", "post", "reanalyse"):
             numbers = [commands.number(field.encode()) for field in fields[1:]]
@@ -407,16 +469,70 @@ class Record:
             done = self.chart
             self.count("%s kind %d accepted" % (command, done.kind))
             self.count("%s rounds %s" % (command, text.split()[2]))
-            if len(done.base) < 15:
-                self.count("%s leaving a base of %d" % (command, len(done.base)))
+            assert len(done.base) >= 15, (line, text)
+            if command == "build":
+                self.note_build(done.kind, [commands.number(field.encode()) for field in fields[2:]])
+            else:
+                self.note_tail(before, text)
         elif command == "read":
             done = self.chart
             self.count("read accepted status %d verdict %d" % (done.status, done.verdict))
+            if len(done.base) < 15:
+                self.count("read kind %d with a base of %d" % (done.kind, len(done.base)))
         elif command in ("word", "lines"):
             kind = commands.number(fields[1].encode()) if command == "word" else before.kind
             self.count("%s kind %d accepted" % (command, kind))
         else:
             self.count("%s accepted" % command)
+
+    def note_build(self, kind, words):
+        """document 02, Q-4: a build, accepted or refused with 16, by the number of words that stand."""
+        left, rounds = standing(kind, words)
+        if len(left) < 17:
+            self.count("build kind %d of %d words, %d standing" % (kind, len(words), len(left)))
+        if len(left) < 15:
+            self.count("build kind %d refused 16, rounds %d" % (kind, rounds))
+
+    def note_no_tail(self, before):
+        """document 02, Q-4: a renewal that is refused with 16, by the number of words that there are."""
+        words = before.base + before.series
+        self.count("renew kind %d refused 16" % before.kind)
+        self.count("renew refused 16 of %s" % (len(words) if len(words) < 32 else "32 words or more"))
+        if len(before.base) >= 15:
+            self.count("renew refused 16 with a base of 15 or more")
+        if len(before.series) == 366:
+            self.count("renew refused 16 on a full series, kind %d" % before.kind)
+        assert before.series or len(before.base) < 15, before
+
+    def note_tail(self, before, text):
+        """document 02, Q-4: an accepted renewal, by the tail that it uses. Chart and answer are compared with it."""
+        kind, words = before.kind, before.base + before.series
+        used = tail_used(kind, words)
+        left, rounds = standing(kind, words[len(words) - used:])
+        removed = used - len(left)
+        assert (self.chart.base, text) == (left, "renewed rounds %d removed %d" % (rounds, removed)), (before, text)
+        self.count("renew kind %d by a tail of %d" % (kind, used))
+        if used == len(words) and used < 32:
+            self.count("renew by all there are, %d words" % used)
+        if used > 15:
+            fifteen, rounds_of_15 = standing(kind, words[len(words) - 15:])
+            self.count("renew kind %d by a longer tail, rounds %d" % (kind, rounds))
+            if rounds != rounds_of_15:
+                self.count("renew kind %d, not the rounds of the last 15" % kind)
+            if removed != 15 - len(fifteen):
+                self.count("renew kind %d, not the removals of the last 15" % kind)
+            tail = words[len(words) - used:]
+            if min(tail) < min(left) and max(tail) > max(left):
+                self.count("renew kind %d by a longer tail, removals on both sides" % kind)
+        longer = [good >= 15 for count, good in tail_lengths(kind, words).items() if count > used]
+        if longer and not all(longer):
+            self.count("renew kind %d where a longer tail will not do" % kind)
+        if longer and not any(longer):
+            self.count("renew kind %d where no longer tail will do" % kind)
+        if len(before.base) < 15:
+            self.count("renew kind %d with a base of %d" % (kind, len(before.base)))
+        if not before.series:
+            self.count("renew without posts, a base of %d" % len(before.base))
 
 
 def print_table(table):

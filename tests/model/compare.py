@@ -48,7 +48,7 @@ class Run:
         """A few commands, so that each exit status occurs: the highest of thousands is nearly always the same."""
         rng, rec = self.rng, self.rec
         kind = rng.choice(choices.KINDS)
-        rec.build(kind, choices.random_base(rng, kind))
+        rec.build_or_read(kind, choices.random_base(rng, kind))
         for word in choices.plan(rng, rec.chart, rng.choice((0, 0, 1, 2, 3, 4))) or []:
             rec.post(word, rng)
         if rec.chart.status == 1:
@@ -77,19 +77,67 @@ class Run:
         self.narrow = self.chance(0.3)
         self.trouble = rng.choice((0.05, 0.05, 0.4))
         kind = rng.choice(choices.KINDS)
-        way = rng.randrange(10)
+        way = rng.randrange(13)
         if way < 3:
-            self.rec.build(kind, choices.random_base(rng, kind))
+            self.start_by_build(kind, choices.random_base(rng, kind))
         elif way < 5:
-            self.rec.build(kind, self.base_at_edge(kind))
+            self.start_by_build(kind, self.base_at_edge(kind))
         elif way < 6:
-            self.rec.build(kind, self.base_of_rounds(kind))
+            self.start_by_build(kind, self.base_of_rounds(kind))
+        elif way < 9:
+            self.renewals(kind)
         else:
             self.rec.read_chart(self.random_chart(kind))
             if self.rec.chart.series and self.chance(0.3):
                 self.left = 15
                 self.trouble = 0.5
         self.rec.do("show")
+
+    def start_by_build(self, kind, words):
+        """A build. document 02, Q-4: if fewer than 15 words stand, mostly the chart of these words is read then."""
+        if self.chance(0.8):
+            self.rec.build_or_read(kind, words)
+        else:
+            self.rec.build(kind, words)
+
+    def renewals(self, kind):
+        """document 02, Q-4: charts whose tails differ, each with its renewal; then posts, and the renewal again."""
+        rng, rec = self.rng, self.rec
+        self.left = 5
+        for _ in range(rng.randint(5, 20)):
+            chart = self.chart_of_tails(kind)
+            if rec.read_chart(chart) != b"read":
+                continue
+            for _ in range(rng.randint(1, 4)):
+                rec.do("renew")
+                rec.do("show")
+                if rec.chart.status == 0 and len(rec.chart.series) < 366:
+                    rec.post(self.word() if self.chance(0.3) else max(0, chart.base[-1]), rng)
+                elif rec.chart.status != 0:
+                    break
+
+    def chart_of_tails(self, kind):
+        """A free chart, mostly sound: words close together, and some far away, near the front or anywhere."""
+        rng = self.rng
+        centre = rng.choice((500, 3000, 10000)) * (-1 if kind == 3 and self.chance(0.4) else 1)
+        sides = (1,) if kind == 1 else rng.choice(((1,), (-1,), (1, -1)))
+        near = rng.choice((14, 14, 14, 14, 13, 15, rng.randint(3, 20)))
+        words = [centre] * near
+        size = rng.choice((1, 1, 2))
+        for _ in range(rng.choice((rng.randint(0, 4), rng.randint(0, 19)))):
+            words.insert(0, centre + rng.choice(sides) * size)
+            size = min(450, int(size * rng.uniform(1.15, 1.5)) + rng.choice((1, 1, 2)))
+        words = [centre] * rng.choice((0, 0, 1, 1, 2, 9)) + words
+        if self.chance(0.3):
+            few = rng.sample((2, 3, 5, 8, 15, 30, 70, 150, 400), rng.randint(1, 4))
+            words = [centre + (0 if self.chance(0.75) else rng.choice(sides) * rng.choice(few))
+                     for _ in range(rng.randint(15, 40))]
+        if self.chance(0.5):
+            words = [centre - 400, centre + 400] * rng.choice((5, 16)) + words
+        base = rng.randint(10, max(10, min(32, len(words))))
+        if self.chance(0.1):
+            words = words[:base] + [centre] * max(0, 366 - len(words)) + words[base:]
+        return Chart(kind, tuple(words[:base]), tuple(words[base:base + 366]), 0, 0)
 
     def base_at_edge(self, kind):
         """Words for a build, one of them at the limit of its own base or one off."""

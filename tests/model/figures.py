@@ -15,6 +15,7 @@ from model import Chart
 
 # Bases with a letter: kind and words.
 A = 2, (9900,) * 7 + (10100,) * 7 + (10000,)
+B = 1, (15, 0, 0, 0, 6, 15, 0, 0, 0, 4) + (0,) * 5
 C = 2, (10000,) * 7 + (10001,) * 8
 D = 1, (1000,) * 7 + (1001,) * 8
 E = 3, (10000,) * 3 + (10002,) * 9 + (10003,) * 5
@@ -29,20 +30,24 @@ N = 3, (-1,) * 7 + (0,) * 8
 P = 3, (1,) * 7 + (0,) * 8
 Q = 3, (0,) * 2 + (1,) + (2,) * 6 + (3,) * 5 + (4,) * 5
 R = 3, (-1100,) * 7 + (-900,) * 7 + (-1000,)
-T = 1, (0,) * 10 + (1, 12, 144, 1728, 20000)
+T = 1, (0,) * 10
 U = 2, (296,) * 7 + (304,) * 7 + (300,)
 V = 2, (297,) * 7 + (305,) * 7 + (301,)
 W = 2, (-20000,) * 16 + (20000,) * 16
+X = 1, (100, 70) + (0,) * 13
 Y = 1, (200,) * 7 + (400,) * 7 + (300,)
 Z = 1, (1000,) * 15
-LETTERS = {"A": A, "C": C, "D": D, "E": E, "F": F, "G": G, "H": H, "J": J, "K": K, "L": L, "M": M, "N": N, "P": P,
-           "Q": Q, "R": R, "T": T, "U": U, "V": V, "W": W, "Y": Y, "Z": Z}
+LETTERS = {"A": A, "B": B, "C": C, "D": D, "E": E, "F": F, "G": G, "H": H, "J": J, "K": K, "L": L, "M": M, "N": N,
+           "P": P, "Q": Q, "R": R, "T": T, "U": U, "V": V, "W": W, "X": X, "Y": Y, "Z": Z}
 
 # Words for other bases.
 HIGH = (1000,) * 14 + (2000,)
+HIGH_15 = (1000,) * 15 + (2000,)
 LOW = (1000,) * 14 + (0,)
+LOW_15 = (1000,) * 15 + (0,)
 TWO_OUT = (10000,) * 13 + (10001,) * 13 + (10050, 10051)
 FIVE_OUT = (0,) * 10 + (1, 12, 144, 1728, 20000)
+FIVE_OUT_15 = (0,) * 15 + (1, 12, 144, 1728, 20000)
 SWAPPED = (4135,) * 7 + (10000,) * 8
 
 # Series.
@@ -61,7 +66,8 @@ K_DOWN_BELOW = range(990, 929, -10)
 R_DOWN_BELOW = range(-1010, -1071, -10)
 Z_UP = range(100, 701, 100)
 
-# Charts that cases start from.
+# Charts that cases start from. document 02, Q-4: a base of 10 to 14 words is read, and no longer built.
+FOURTEEN = Chart(1, (1000,) * 14, (), 0, 0)
 FRESH = Chart(*A, (), 0, 0)
 AFTER_UP = Chart(*A, tuple(UP), 1, 3)
 AFTER_UP_ACROSS = Chart(*A, UP_ACROSS, 1, 3)
@@ -224,9 +230,11 @@ WORDS = (
 CHARTS = (
     "document 01, figures, READINGS 11: A has one round, since nothing is removed",
     ("A, kind 2", build(A)),
-    "document 01, figures: of 1000 fourteen times and 2000, 2000 is removed; two rounds, a base of 14, S = 0",
+    "document 02, Q-4, READINGS-02 10: of 1000 fourteen times and 2000, 2000 is removed; 14 words stand, which is 16",
     ("1000 fourteen times and 2000, kind 1", build((1, HIGH))),
-    ("1000 fourteen times and 2000, kind 1, lines", build((1, HIGH)), "lines"),
+    "document 01, figures: two rounds, one removed, a base of 14, S = 0; here 15 stand, or the base of 14 is read",
+    ("1000 fifteen times and 2000, kind 1", build((1, HIGH_15))),
+    ("1000 fourteen times, kind 1, lines (from store)", read(FOURTEEN), "lines"),
     "READINGS 7: kind 2 takes words below 0; words out of range are refused with 3",
     ("-1 fifteen times, kind 2", build((2, (-1,) * 15))),
     ("-1 fifteen times, kind 1", build((1, (-1,) * 15))),
@@ -235,10 +243,12 @@ CHARTS = (
     "READINGS 9: kind 1 has no lower limit in rejection",
     ("1000 fourteen times and 0, kind 1", build((1, LOW))),
     ("1000 fourteen times and 0, kind 2", build((2, LOW))),
+    ("1000 fifteen times and 0, kind 2", build((2, LOW_15))),
     "READINGS 11: the words of a round are removed together",
     ("10000 and 10001 thirteen times, 10050, 10051, kind 2", build((2, TWO_OUT))),
-    "READINGS 12: rejection can leave ten words, and no fewer",
+    "READINGS 12: rejection can leave ten words, and no fewer; document 02, Q-4: then the build is refused with 16",
     ("0 ten times, 1, 12, 144, 1728, 20000, kind 1", build((1, FIVE_OUT))),
+    ("0 fifteen times, 1, 12, 144, 1728, 20000, kind 1", build((1, FIVE_OUT_15))),
     "document 01, numbers for what is declined: build",
     ("14 words (kind 2, 10000 each)", build((2, (10000,) * 14))),
     ("14 words of 20001 (kind 2)", build((2, (20001,) * 14))),
@@ -279,9 +289,10 @@ POSTS = (
     ("C, posts 10003", *posted(C, 10003)),
     ("C, posts 9999", *posted(C, 9999)),
     ("C, posts 9998", *posted(C, 9998)),
-    "document 01, figures, READINGS 32: where S is 0, a word above the mean is 1",
-    ("1000 fourteen times and 2000, posts 1001", *posted((1, HIGH), 1001)),
-    ("1000 fourteen times and 2000, posts 1000 1001", *posted((1, HIGH), 1000, 1001)),
+    "document 01, figures, READINGS 32: where S is 0, a word above the mean is 1; document 02, Q-4: the chart is read",
+    ("1000 fourteen times, posts 1001 (from store)", read(FOURTEEN), *posts(1, [1001])),
+    ("1000 fourteen times, posts 1000 1001 (from store)", read(FOURTEEN), *posts(1, [1000, 1001])),
+    ("1000 fifteen times and 2000, posts 1001", *posted((1, HIGH_15), 1001)),
     "READINGS 8: far away on the side without a limit is not beyond",
     ("K, posts 1301", *posted(K, 1301)),
     ("K, posts 0", *posted(K, 0)),
@@ -389,7 +400,7 @@ REFUSALS = (
 )
 
 RENEWAL = (
-    "READINGS 20: renewal takes the last 15 words of the base followed by the series",
+    "READINGS 20: renewal takes the last 15 words of the base followed by the series, if 15 of them stand",
     ("A of 366 words, renewal", read(Chart(*A, (10000,) * 366, 0, 0)), "renew"),
     ("A after that (that: 366 words, renewal)", "show"),
     ("A, posts 10110 9890 10120", *posted(A, 10110, 9890, 10120)),
@@ -397,14 +408,15 @@ RENEWAL = (
     ("A after that (that: 10110 9890 10120, renewal)", "show"),
     ("A, renewal", build(A), "renew"),
     ("A after that (that: a renewal without posts)", "show"),
+    "document 02, Q-4: of the last 15 words, 10290 is removed and 14 stand; so the last 16 are used, and 15 stand",
     ("A, posts 10290 and 10000 fourteen times", *posted(A, 10290, *[10000] * 14)),
     ("A after that, renewal (that: 10290 and 10000 fourteen times)", "renew"),
     ("A after that (that: 10290 and 10000 fourteen times, renewal)", "show"),
-    "READINGS 20: base and series together below 15 words are refused with 12",
-    ("1000 fourteen times and 2000, renewal", build((1, HIGH)), "renew"),
-    ("1000 fourteen times and 2000, posts 999", *posted((1, HIGH), 999)),
-    ("1000 fourteen times and 2000 after that, renewal (that: 999)", "renew"),
-    ("1000 fourteen times and 2000 after that (that: 999, renewal)", "show"),
+    "READINGS 20: base and series together below 15 words are refused with 12; the base of 14 is read",
+    ("1000 fourteen times, renewal (from store)", read(FOURTEEN), "renew"),
+    ("1000 fourteen times, posts 999 (from store)", read(FOURTEEN), *posts(1, [999])),
+    ("1000 fourteen times after that, renewal (that: 999)", "renew"),
+    ("1000 fourteen times after that (that: 999, renewal)", "show"),
 )
 
 HANDED_IN = (
@@ -495,8 +507,9 @@ LINES = (
     "document 01, lines for the plotter: kind 1 has three",
     ("K, lines", build(K), "lines"),
     ("Z, lines", build(Z), "lines"),
-    ("T, lines", build(T), "lines"),
     ("D, lines", build(D), "lines"),
+    "document 02, Q-4: T has ten words and is read, since no build gives such a base now",
+    ("T, lines", read(Chart(*T, (), 0, 0)), "lines"),
 )
 
 LISTS = (
@@ -511,8 +524,10 @@ LISTS = (
      "post 2 10000 10000 10000", "correct", "renew", "show", "lines"),
     ("K, kinds that are none", build(K), "post -1 1 1 10000", "post 65537 1 1 10000", "post 1 1 2 10000",
      "reanalyse 1 1 1 10000", "correct", "reanalyse 1 1 1 10000", "renew", "show", "lines"),
-    ("wide, a renewal of six rounds", build((1, (20000,) * 22 + (0,) * 10)), *posts(1, (1, 12, 144, 1728, 20000)),
+    ("wide, a renewal of six rounds", build((1, (20000,) * 18 + (0,) * 14)), *posts(1, (0, 1, 12, 144, 1728, 20000)),
      "renew", "renew", "post 1 1 2 10000", "show", "lines"),
+    ("wide, a renewal of one round by a word more", build((1, (20000,) * 22 + (0,) * 10)),
+     *posts(1, (1, 12, 144, 1728, 20000)), "renew", "renew", "post 1 1 2 10000", "show", "lines"),
     ("N, spikes", build(N), "post 3 0 1 10000", "post 3 0 2 10000", "post 3 0 2 10000", "reanalyse 3 0 3 10000",
      "correct", "reanalyse 3 1 2 10000", "post 3 30000 0 10000", "renew", "show", "lines"),
     ("stored A, two calls", read(Chart(*A, (10301,), 1, 1)), "reanalyse 2 10301 10000 0", "correct", "show", "lines"),
@@ -709,6 +724,94 @@ HALVES = (
     *opened("J, series 313", J, (313,), ((0, 0), (1, 1), (2, 1))),
 )
 
+# document 02, Q-4: words far from 0. However many of the last of them come before 0 fourteen times, rejection removes
+# them all. TURNED has the same words with neighbours exchanged, so that no seven of them fall.
+FAR = (147, 125, 105, 88, 73, 60, 49, 39, 31, 24, 19, 14, 10, 7, 5, 3, 2, 1)
+TURNED = tuple(word for at in range(0, 18, 2) for word in (FAR[at + 1], FAR[at]))
+FAR_BOTH = (-136, 116, -98, 82, -68, 56, -46, 37, -29, 23, -18, 13, -10, 7, -5, 3, -2, 1)
+ZEROS_14 = (0,) * 14
+WIDE_1 = (20000,) * 16 + (0,) * 16
+
+
+def from_store(kind, base, series=(), status=0, verdict=0):
+    """A read of a chart."""
+    return read(Chart(kind, tuple(base), tuple(series), status, verdict))
+
+
+def renewals_after(front, base, words):
+    """Cases: a chart by a build or, with a base below 15 words, from store; its renewal after each number of posts."""
+    kind, count = base[0], len(base[1])
+    for posts_made in range(len(words) + 1):
+        start = build(base) if count >= 15 else from_store(*base)
+        told_posts = "%d post%s" % (posts_made, "" if posts_made == 1 else "s")
+        yield ("%s after %s, renewal" % (front, told_posts), start, *posts(kind, words[:posts_made]), "renew")
+
+
+FIFTEEN = (
+    "READINGS-02 10: 16 counts the words that stand at the end; a refused build leaves the chart before it",
+    ("1000 sixteen times and 2000, kind 1", build((1, (1000,) * 16 + (2000,)))),
+    ("1000 fourteen times and 2000, kind 2", build((2, HIGH))),
+    ("1000 fourteen times and 2000, kind 3", build((3, HIGH))),
+    ("-1000 fourteen times and -2000, kind 3", build((3, (-1000,) * 14 + (-2000,)))),
+    ("-1000 fifteen times and -2000, kind 3", build((3, (-1000,) * 15 + (-2000,)))),
+    ("A, then 1000 fourteen times and 2000, kind 1", build(A), build((1, HIGH)), "show"),
+    ("chart of A after that, posts 10301 (that: a refused build)", *posts(2, [10301])),
+    "document 02, Q-4: words go on both sides for kinds 2 and 3; kind 1 keeps the lower one",
+    ("500, 1000 fourteen times and 2000, kind 1", build((1, (500, *HIGH)))),
+    ("500, 1000 fourteen times and 2000, kind 2", build((2, (500, *HIGH)))),
+    ("500, 1000 fifteen times and 2000, kind 2", build((2, (500, *HIGH_15)))),
+    "document 02, Q-4: 14, 15 and 16 standing of 32, in many rounds",
+    *[("32 words with 0 %s times, kind %d" % (NAMES[left - 3], kind), build((kind, far[left - 14:] + (0,) * left)))
+      for kind, far in ((1, FAR), (2, FAR_BOTH), (3, FAR_BOTH)) for left in (14, 15, 16)],
+    "document 02, Q-4: 16 comes after 1, 2 and 3 in building",
+    ("1000 fourteen times and 2000, kind 4", build((4, HIGH))),
+    ("1000 thirteen times and 2000, kind 1", build((1, HIGH[1:]))),
+    ("1000 fourteen times and 20001, kind 1", build((1, HIGH[:14] + (20001,)))),
+    "READINGS-02 11: the shortest tail of which 15 stand; the tails of 15 to 18 words of B after 3 posts leave 14, 15, "
+    "14 and 18",
+    *renewals_after("B", B, (0, 0, 0)),
+    ("B after that (that: 3 posts, renewal)", "show"),
+    "document 02, Q-4: rounds and removals are those of the tail used, here of 20 words and of 32",
+    ("wide after 0 and the last 5 of 18 far words, and 0 fourteen times, renewal",
+     from_store(1, WIDE_1, (0, *FAR[13:], *ZEROS_14)), "renew"),
+    ("wide after 0 and the last 17 of 18 far words, and 0 fourteen times, renewal",
+     from_store(1, WIDE_1, (0, *FAR[1:], *ZEROS_14)), "renew"),
+    ("wide after 0 and 17 words on both sides, and 0 fourteen times, kind 3, renewal",
+     from_store(3, (-20000, 20000) * 16, (0, *FAR_BOTH[1:], *ZEROS_14)), "renew"),
+    "document 02, Q-4: 33 words are never taken, though 15 of them stand here",
+    ("wide after 0 and 18 far words, and 0 fourteen times, renewal",
+     from_store(1, WIDE_1, (0, *FAR, *ZEROS_14)), "renew"),
+    "document 02, Q-4: the tail used is all there are, and fewer than 32",
+    ("0, 20, -10 and 0 seven times after 0 seven times, kind 2, renewal",
+     from_store(2, (0, 20, -10) + (0,) * 7, (0,) * 7), "renew"),
+    ("0, 20, -10 and 0 seven times after 0 six times, kind 2, renewal",
+     from_store(2, (0, 20, -10) + (0,) * 7, (0,) * 6), "renew"),
+    "READINGS-02 12: no tail will do, though the base has 15 words; with one post more the renewal is accepted",
+    *renewals_after("X", X, (0, 0)),
+    "READINGS-02 12: 8 comes before 16, and so does 12",
+    ("X after 120 with status 1, renewal", from_store(*X, (120,), 1, 1), "renew"),
+    ("X after 120 with status 2, renewal", from_store(*X, (120,), 2, 1), "renew"),
+    *list(renewals_after("1 and 0 nine times", (1, (1,) + (0,) * 9), (0,) * 7))[3:],
+    "READINGS-02 12: without posts, a base of 15 words or more is a tail that stands; here no shorter one will do",
+    ("2, 2, 1 and 0 fourteen times, renewal (without posts)", build((1, (2, 2, 1) + ZEROS_14)), "renew"),
+    ("W, renewal (without posts)", build(W), "renew"),
+    "READINGS-02 13: a base of 10 to 14 words is read and posted to; below 15 words in all, renewal is 12",
+    *[("1000 %s times from store, kind %d, %s" % (NAMES[count - 3], kind, told_call),
+       from_store(kind, (1000,) * count), command)
+      for count in range(10, 15) for kind in (1, 2, 3)
+      for told_call, command in (("posts 1001", call("post", kind, 1001)), ("renewal", "renew"))],
+    ("1000 ten times from store, kind 2: judged, reanalysed and renewed", from_store(2, (1000,) * 10),
+     *posts(2, (1000, 999)), call("reanalyse", 2, 1001), "correct", call("reanalyse", 2, 1000), "renew",
+     *posts(2, (1000, 1000)), "renew", *posts(2, (1000,)), "renew", "show", "write", "lines"),
+    "READINGS-02 13: after a renewal that is accepted, the base has 15 words or more",
+    ("1000 ten times and 1000 five times from store, renewal", from_store(1, (1000,) * 10, (1000,) * 5), "renew"),
+    "READINGS-02 14: a full series of which no tail will do; only a new build helps",
+    ("wide after 365 words, posts 0", from_store(1, WIDE_1, (0,) * 334 + TURNED + ZEROS_14[1:]), *posts(1, (0,))),
+    ("wide after that, renewal (that: 366 words)", "renew"),
+    ("wide after that, post of X1 5, X2 5 (that: 366 words, a refused renewal)", "post 1 5 5 0"),
+    ("Z after that (that: a full series that is not renewed)", build(Z)),
+)
+
 SECTIONS = (
     ("Before a chart is built or read", BEFORE),
     ("Words", WORDS),
@@ -724,6 +827,7 @@ SECTIONS = (
     ("Lists, call by call", LISTS),
     ("One side before trend", ONE_SIDE),
     ("Halves to even", HALVES),
+    ("Fifteen must be standing", FIFTEEN),
 )
 
 

@@ -21,8 +21,8 @@ NO_COMMAND = b"missing command; control_chart help lists the commands"
 NO_FILE = b"there is no such file; build makes it"
 NO_FORM = (b"it holds no stored chart (refused 13); check the name, or take the last good copy; "
            b"to build anew, move it away first")
-NOT_SOUND = (b"the chart in it is not sound (refused 14); if an older version left it open, close it with that version, "
-             b"else take the last good copy; to build anew, move it away first")
+NOT_SOUND = (b"the chart in it is not sound (refused 14); if an older version left it open, close it with that "
+             b"version, else take the last good copy; to build anew, move it away first")
 
 
 def may_change(line):
@@ -64,6 +64,7 @@ NARROW = (296,) * 7 + (304,) * 7 + (300,)
 WIDE = (200,) * 7 + (400,) * 7 + (300,)
 TEN = (0,) * 10 + (1, 12, 144, 1728, 20000)
 HIGH = (1000,) * 14 + (2000,)
+HIGH_15 = (1000,) * 15 + (2000,)
 BASES = ((1, K), (2, A), (3, N))
 ABOVE = tuple(range(10010, 10071, 10))
 
@@ -122,6 +123,9 @@ def missing():
     for line in EVERY + FAULTY[:6] + (b"Build 2 1", b"builds", b"post 2 x", b"read"):
         yield None, line
     for kind, base in BASES + ((1, TEN), (1, HIGH), (3, HIGH), (2, (-20000,) * 16 + (20000,) * 16)):
+        yield None, text("build", kind, *base)
+    # document 02, Q-4: the build makes a file if 15 words stand.
+    for kind, base in ((1, HIGH_15), (3, HIGH_15), (2, (0,) * 15 + TEN[10:]), (3, HIGH[:14] + (20001,))):
         yield None, text("build", kind, *base)
     for kind, base in ((0, A), (4, A), (65538, A), (4, A[:14]), (2, A[:14]), (2, A * 3), (1, (-1,) * 14),
                        (1, (-1,) * 15), (2, A[:14] + (20001,)), (3, (10 ** 30,) * 15)):
@@ -230,6 +234,33 @@ def each_command():
         yield model.stored_form(full_open), line
 
 
+def fifteen():
+    """document 02, Q-4: files with a base of 10 to 14 words, and builds and renewals that are refused with 16."""
+    for size, kind, centre in ((10, 1, 1000), (11, 2, 10000), (12, 3, -1000), (13, 1, 0), (14, 2, 10000)):
+        chart = Chart(kind, (centre,) * size, (), 0, 0)
+        opened = chart._replace(series=(centre + 1,), status=1, verdict=1)
+        for line in (b"show", b"lines", b"write", reading("post", kind, centre), reading("post", kind, centre + 1),
+                     b"renew"):
+            yield model.stored_form(chart), line
+        for line in (reading("reanalyse", kind, centre + 1), reading("reanalyse", kind, centre), b"renew"):
+            yield model.stored_form(opened), line
+        # 14 words in all, and 15.
+        for posts in (14 - size, 15 - size):
+            yield model.stored_form(chart._replace(series=(centre,) * posts)), b"renew"
+    # No tail will do: the file stays. One post more, and the renewal is written.
+    small = Chart(1, (1,) + (0,) * 9, (0,) * 5, 0, 0)
+    far = Chart(1, (100, 70) + (0,) * 13, (0,), 0, 0)
+    for chart in (small, far):
+        for line in (b"renew", reading("post", 1, 0)):
+            yield model.stored_form(chart), line
+        yield model.stored_form(chart._replace(series=chart.series + (0,))), b"renew"
+    # The tail used has 16 words (READINGS-02 11); a refused build on a chart that stays.
+    three = Chart(1, (15, 0, 0, 0, 6, 15, 0, 0, 0, 4) + (0,) * 5, (0, 0, 0), 0, 0)
+    yield model.stored_form(three), b"renew"
+    for line in (text("build", 1, *HIGH_15), text("build", 2, *HIGH), text("build", 3, *HIGH[1:])):
+        yield model.stored_form(far), line
+
+
 def halves():
     """document 02, Q-3: files with 313 and -313, as 312.5 and -312.5 went before; these halves again; 20000.5."""
     negative = tuple(-word for word in NARROW)
@@ -250,7 +281,8 @@ def as_given():
 def random_file(rng):
     """A random sound chart as a file, some with one byte changed, and a line that its kind can take."""
     kind = rng.choice(choices.KINDS)
-    chart = model.build(kind, choices.random_base(rng, kind))[0]
+    # document 02, Q-4: a base of 10 to 14 words is no longer built, but a file may hold it.
+    chart = Chart(kind, choices.standing(kind, choices.random_base(rng, kind))[0], (), 0, 0)
     for word in choices.plan(rng, chart, rng.choice((0, 1, 2, 3, 4))) or ():
         chart = commands.step(chart, reading("post", kind, word))[0]
     held = bytearray(model.stored_form(chart))
@@ -266,7 +298,7 @@ def cases():
     """All cases, each once: a list of pairs (held, line)."""
     rng = random.Random(20240106)
     found = [*without_command(), *missing(), *damaged(), *unsound(), *verdicts(), *refused_readings(),
-             *each_command(), *halves(), *as_given()]
+             *each_command(), *fifteen(), *halves(), *as_given()]
     found += [random_file(rng) for _ in range(30)]
     return list(dict.fromkeys(found))
 

@@ -48,7 +48,7 @@ def on_value(value, call, *given):
 
 
 def built(kind, words):
-    """Base, limits, rejection: the chart of a build, without rounds and number removed. Refusals 1, 2, 3."""
+    """Base, limits, rejection: the chart of a build, without rounds and number removed. Refusals 1, 2, 3, 16."""
     return model.build(kind, words)[0]
 
 
@@ -169,6 +169,7 @@ REFUSAL_TEXTS = {
     13: "the bytes are not a stored form",
     14: "there is no chart, or it is not sound",
     15: "the buffer is too short",
+    16: "fewer than 15 words stand after rejection",
 }
 NO_SUCH_NUMBER = "no such number"
 
@@ -183,7 +184,7 @@ VERDICT_TEXTS = {
 NO_SUCH_VERDICT = "no such verdict"
 
 # The header: CONTROL_CHART_VERSION, and CONTROL_CHART_TEXT_MOST, which is room for every text with its 0 byte.
-VERSION = "1.2.0"
+VERSION = "1.3.0"
 TEXT_MOST = 64
 
 
@@ -253,7 +254,7 @@ class LentChart:
         self.size = len(form)
 
     def build(self, kind, room, words):
-        """control_chart_build: rounds, number removed. Refusals 1, 2, 3, 15."""
+        """control_chart_build: rounds, number removed. Refusals 1, 2, 3, 16, 15."""
         words = [held(number, -32768, 32767) for number in words]
         chart, rounds, removed = model.build(held(kind, 0, 2 ** 32 - 1), words)
         self.put(chart, room)
@@ -277,7 +278,7 @@ class LentChart:
         return ()
 
     def renew(self):
-        """control_chart_renew: rounds, number removed. Refusals 13, 14, 8, 12."""
+        """control_chart_renew: rounds, number removed. Refusals 13, 14, 8, 12, 16."""
         chart, rounds, removed = model.renew(self.read_in_room())
         self.put(chart, self.room)
         return rounds, removed

@@ -11,7 +11,7 @@ import commands
 import interface
 import model
 from interface import built, value_of
-from model import Refused
+from model import Chart, Refused
 
 LABELS = "crates/cases/stdin"
 PATH = "crates/cases/stdout"
@@ -21,6 +21,7 @@ C = (10000,) * 7 + (10001,) * 8
 Q = (0, 0, 1) + (2,) * 6 + (3,) * 5 + (4,) * 5
 K = (900,) * 7 + (1100,) * 7 + (1000,)
 TEN = (0,) * 10 + (1, 12, 144, 1728, 20000)
+HIGH = (1000,) * 14 + (2000,)
 
 LIMIT_NAMES = ("lower warning", "upper warning", "lower control", "upper control")
 
@@ -100,7 +101,8 @@ READ_BACK = (
     ("A, read back", A_VALUE, 1024),
     ("A after 10250 10210, read back", value_of(posted(10250, 10210)), 1024),
     ("-313 fifteen times, kind 3, read back", value_of(built(3, (-313,) * 15)), 1024),
-    ("0 ten times, 1, 12, 144, 1728, 20000, kind 1, read back", value_of(built(1, TEN)), 1024),
+    # document 02, Q-4: no build gives a base of ten. A chart with such a base is still written and read.
+    ("0 ten times, kind 1, read back", value_of(Chart(1, (0,) * 10, (), 0, 0)), 1024),
     ("A after 366 posts, read back", value_of(posted(*(10000,) * 366)), 1024),
     ("A with kind 4, read back", A_VALUE._replace(kind=4), 1024),
     ("A, read back by way of 47 bytes", A_VALUE, 47),
@@ -179,7 +181,9 @@ LENT_NUMBERS = (7,) * 24
 FOURTEEN = (10000,) * 14
 STORED_A = model.write(posted(10301))
 STORED_STATUS_3 = model.stored_form(posted(10301)._replace(status=3))
+STORED_FOURTEEN = model.write(Chart(1, (1000,) * 14, (), 0, 0))
 ONE_CALL = (3, 0, 0, 0, 0)
+RENEWAL = (4, 0, 0, 0, 0)
 SIX_NUMBERS = (3,) * 6
 
 LISTS = (
@@ -198,9 +202,13 @@ LISTS = (
     ("kind 4 and fourteen words, one call", built, (4, FOURTEEN), ONE_CALL),
     ("fourteen words, six numbers", built, (2, FOURTEEN), SIX_NUMBERS),
     ("fourteen words, nine calls", built, (2, FOURTEEN), (3,) * 45),
+    ("1000 fourteen times and 2000, kind 1, one call", built, (1, HIGH), ONE_CALL),
     ("stored A, a reanalysis and a correction", model.read, (STORED_A,), (2, 2, 10301, 10000, 0, 3, 0, 0, 0, 0)),
     ("stored A with status 3, one call", model.read, (STORED_STATUS_3,), ONE_CALL),
     ("no bytes, one call", model.read, (b"",), ONE_CALL),
+    # document 02, Q-4: 12 while base and series have 14 words. With one post more, 15 stand.
+    ("stored base of fourteen, a renewal, a post and a renewal", model.read, (STORED_FOURTEEN,),
+     RENEWAL + (1, 1, 21000, 19000, 0) + RENEWAL),
 )
 
 
@@ -214,6 +222,7 @@ def listed(label, start, given, numbers):
 
 REFUSED_STARTS = (
     ("kind 4, A's words, building", built, (4, A)),
+    ("1000 fourteen times and 2000, kind 1, building", built, (1, HIGH)),
     ("no bytes, reading", model.read, (b"",)),
 )
 

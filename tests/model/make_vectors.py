@@ -11,6 +11,7 @@ from commands import MARK
 from model import Chart
 from choices import Record, exact
 from figures import figures
+from make_calls import numbers_of
 
 ASKED = "crates/control_chart/stdin"
 ANSWERED = "crates/control_chart/stdout"
@@ -146,7 +147,7 @@ def builds(rec, rng):
     for kind, base in ((2, A), (2, C), (1, K), (1, Z), (1, TEN), (1, low), (2, low), (2, two), (3, two), (1, two),
                        (1, (1000,) * 14 + (2000,)), (2, (-1,) * 15), (1, (-1,) * 15), (3, N),
                        (3, tuple(-word for word in TEN)), (2, (-20000,) * 16 + (20000,) * 16)):
-        rec.build(kind, base)
+        rec.build_or_read(kind, base)
         rec.do("show")
         rec.do("lines")
     rec.build(2, A)
@@ -178,7 +179,7 @@ def builds(rec, rng):
                 far = edge_word(kind, plain, way)
                 for word in (far, far + way):
                     base = plain[:3] + [word] + plain[3:]
-                    rec.build(kind, base)
+                    rec.build_or_read(kind, base)
                     rec.do("show")
     # Nineteen words, two of them exactly on the control limits, and one off.
     for kind in choices.KINDS:
@@ -191,7 +192,7 @@ def builds(rec, rng):
                 rec.do("lines")
     for _ in range(100):
         kind = rng.choice(choices.KINDS)
-        rec.build(kind, choices.random_base(rng, kind))
+        rec.build_or_read(kind, choices.random_base(rng, kind))
         rec.do(rng.choice(("show", "show", "lines")))
     for _ in range(40):
         # A few words, each several times as far away as the one before: many rounds.
@@ -204,7 +205,7 @@ def builds(rec, rng):
             value = min(20000, value * rng.choice((3, 4, 5, 6, 12)))
             base.append(value * (rng.choice((1, -1)) if kind != 1 else 1))
         rng.shuffle(base)
-        rec.build(kind, base)
+        rec.build_or_read(kind, base)
         rec.do("show")
 
 
@@ -225,7 +226,7 @@ def posts_and_reanalyses(rec):
     comment(rec, "figures")
 
     def try_words(kind, base, posts, reanalyses=(), corrected=False):
-        rec.build(kind, base)
+        rec.build_or_read(kind, base)
         for word in posts:
             rec.post(word)
         rec.do("show")
@@ -411,20 +412,322 @@ def halves_to_even(rec):
             rec.do(command)
 
 
+# document 02, Q-4: for each kind the sides on which words are removed, in turn, and the word that stands.
+SIDES_REMOVED = ((1, (1,), 700), (2, (1, -1), 10000), (2, (-1,), 300), (3, (-1,), -900), (3, (1, 1, -1), 0))
+
+# document 02, Q-4: words in which a longer tail does worse than a shorter one. For each kind: which tails will do, from
+# the last 15 words on (1 will do, 0 will not), and the words. `5*0` stands for 0 five times.
+SHORTER_BETTER = {
+    1: """\
+10: 20 6*0 150 0 0 100 5*0
+100: 4*0 15 3*0 100 7*0 70
+1000: 40 5*0 3 15 8*0 10 0
+101: 9*0 100 5*0 70 0
+1001: 0 5 3*0 10 3*0 15 8*0
+100011: 0 5 0 0 5 150 100 10*0 20 0 0
+1010111: 6*0 2 0 15 6*0 3 0 10 3*0
+010: 7*0 400 30 0 20 6*0
+0100: 15 0 3 11*0 2 10 0 0
+0101: 0 0 10 3*0 400 0 0 15 8*0
+01001: 5*0 100 400 4*0 40 0 0 150 4*0
+00101: 4*0 400 5*0 4 3*0 150 0 6 0 0
+""",
+    2: """\
+10: 0 -6 6*0 -10 3*0 15 3*0
+100: 0 0 5 3*0 -2 0 0 8 7*0
+1000: 3*0 150 6*0 -3 0 100 0 8 3*0
+101: 3*0 6 8*0 -8 4*0
+1001: 6 100 6*0 -6 -4 8*0
+100011: 6*0 20 0 0 4 100 3*0 150 5*0
+1010: 0 6 3*0 70 0 -100 0 0 -8 7*0
+10101: 11*0 4 0 -100 -70 0 0 6 0
+010: -4 0 0 -100 4*0 -10 6*0 -15 0
+0100: 5*0 30 0 3 -150 4*0 -40 4*0
+0101: 7*0 400 0 -40 30 7*0
+01001: 4*0 -400 0 10 0 -15 3*0 -3 6*0
+0010: 3*0 4 6*0 -150 70 5*0 6
+00101: 5*0 -150 7*0 15 -40 3*0 -20
+0001011: -4 0 0 -100 6*0 -4 100 4*0 -15 3*0 6
+""",
+    3: """\
+10: 4*0 -10 3*0 -15 7*0
+100: 3*0 100 7*0 70 2 4*0
+1000: -400 3*0 -4 -10 6*0 -15 5*0
+101: 4*0 150 100 11*0
+1001: 3*0 6 3 7*0 10 5*0
+10001: 0 -30 9*0 10 3*0 6 0 3 0
+1010: 0 -2 -3 3*0 40 8*0 -30 0 0
+10101111: 0 -8 6*0 -30 0 6 4*0 -8 0 20 4*0
+010: 6*0 -3 -30 4*0 -2 4*0
+0100: 7*0 -30 10 3*0 6 4*0 3
+0101: 3*0 400 6*0 20 6*0 -15
+010011: 0 40 -400 4*0 40 0 6 8*0 -8 0
+0101011: 3*0 -150 0 -4 4*0 6 3*0 150 0 -10 4*0
+0010: 0 0 -3 0 -2 4*0 -400 10 7*0
+00101: -3 6*0 -400 0 15 -2 4*0 -3 3*0
+0001011: -150 0 0 -150 -4 0 150 3*0 -10 8*0 -40 0
+""",
+}
+
+
+def near_words(centre, count, spread):
+    """Words close together, the last of them in the middle. With a spread they differ, so that their order is seen."""
+    return tuple(centre + spread * (7 * step % 5 - 2) for step in range(count - 1)) + (centre,)
+
+
+def wide_base(kind, centre):
+    """A base of 32 words whose control limits are far from the centre on both sides."""
+    least = 0 if kind == 1 else centre - 4000
+    return (least, centre + 4000) * 16
+
+
+def splits(kind, words, series_least=0):
+    """Free sound charts in which the base followed by the series is these words: a base below 15, and one of 15 on."""
+    found = {}
+    for size in range(10, min(32, len(words) - series_least) + 1):
+        chart = Chart(kind, words[:size], words[size:], 0, 0)
+        if model.sound(chart):
+            found.setdefault(size < 15, chart)
+    return list(found.values())
+
+
+def fifteen_standing(rec):
+    """document 02, Q-4: builds and renewals by the number of words that stand, and bases of 10 to 14 from store."""
+    comment(rec, "fifteen must be standing")
+    standing_builds(rec)
+    tails_used(rec)
+    tails_that_will_not_do(rec)
+    small_bases(rec)
+    full_without_renewal(rec)
+    random_tails(rec, random.Random(20240107))
+
+
+def standing_builds(rec):
+    """Builds of 15, 16, 17, 20 and 32 words, of which 14, 15 and 16 stand, and the chart that stays."""
+    for kind, ways, centre in SIDES_REMOVED:
+        rec.build(2, A)
+        for size in (15, 16, 17, 20, 32):
+            for left in range(13 if size == 20 else 14, min(16, size) + 1):
+                near = near_words(centre, left, 0)
+                rec.build(kind, choices.far_words(kind, near, ways, size - left) + near)
+                rec.do("show")
+        # Words that differ: the far ones stand between the near ones.
+        for size in (16, 20, 32):
+            for left in (14, 15, 16):
+                near = near_words(centre + 6, left, 3)
+                far = choices.far_words(kind, near, ways, size - left)
+                at = range(max(left, len(far)))
+                rec.build(kind, [word for place in at for word in near[place:place + 1] + far[place:place + 1]])
+                rec.do("show")
+    # 16 comes after 1, 2 and 3. The word out of range is removed too, or is one of those that would stand.
+    high = (1000,) * 14 + (2000,)
+    for kind, words in ((0, high), (4, high), (1, high[1:]), (1, high * 3), (1, high[:14] + (20001,)), (1, (-1, *high)),
+                        (2, (-20001, *high[1:])), (3, (1000,) * 14 + (32767,)), (3, (-20001,) * 14 + (0,)), (1, high)):
+        rec.build(kind, words)
+    rec.do("show")
+
+
+def renewed(rec, chart):
+    """A read of a chart, its renewal, and what is then there."""
+    assert rec.read_chart(chart) == b"read"
+    answer = rec.do("renew")
+    rec.do("show")
+    return answer
+
+
+def tails_used(rec):
+    """Renewals by each tail from 15 words to 32: of more words than 32, of all there are, and without posts."""
+    for kind, ways, centre in SIDES_REMOVED:
+        for spread in (0, 2):
+            near = near_words(centre + 4, 14, spread)
+            far = choices.far_words(kind, near, ways, 17)
+            for count in range(18):
+                words = near[:1] + far[17 - count:] + near
+                assert choices.tail_used(kind, words) == len(words) == 15 + count
+                if spread == 0:
+                    renewed(rec, Chart(kind, wide_base(kind, centre), words, 0, 0))
+                else:
+                    for chart in splits(kind, words):
+                        renewed(rec, chart)
+        # Without posts: only the whole base will do. Its first word keeps the next from being removed.
+        near = near_words(centre + 4, 14, 0)
+        far = choices.far_words(kind, near, ways, 17)
+        for count in range(18):
+            for first in (*far, *near[:1]):
+                chart = Chart(kind, (first, *far[17 - count:], *near), (), 0, 0)
+                if model.sound(chart):
+                    renewed(rec, chart)
+                    break
+    # Without posts, words that differ: the last 15 will do.
+    for kind in choices.KINDS:
+        for size in range(15, 33):
+            renewed(rec, Chart(kind, tuple(5000 + 10 * (11 * step % 17) for step in range(size)), (), 0, 0))
+            rec.do("renew")
+
+
+def shorter_better(kind):
+    """The words of SHORTER_BETTER for a kind, with the tails that will do."""
+    for line in SHORTER_BETTER[kind].splitlines():
+        pattern, _, text = line.partition(":")
+        yield pattern, tuple(numbers_of(text)[0])
+
+
+def tails_that_will_not_do(rec):
+    """Renewals in which a longer tail does worse, and renewals that are refused with 16; 8 and 12 come before 16."""
+    for kind in choices.KINDS:
+        for pattern, words in shorter_better(kind):
+            assert [int(will_do) for will_do in pattern] == [
+                left >= 15 for left in choices.tail_lengths(kind, words).values()]
+            for chart in splits(kind, words):
+                renewed(rec, chart)
+    for kind, ways, centre in SIDES_REMOVED:
+        near = near_words(centre, 14, 0)
+        far = choices.far_words(kind, near, ways, 18)
+        for count in (1, 2, 3, 8, 17, 18):
+            for chart in splits(kind, far[18 - count:] + near, 1):
+                assert renewed(rec, chart) == b"refused 16"
+                rec.do("write")
+                # One word fewer, which is 12 if 14 are left. Posts make it 16, and then a renewal is accepted.
+                rec.read_chart(chart._replace(series=chart.series[:-1]))
+                for _ in range(3):
+                    rec.do("renew")
+                    rec.post(centre)
+                rec.do("show")
+        # More words than 32. With a near word in front the tail of 33 would do, and it is not tried.
+        for front in ((), near[:1], near[:1] * 2, near):
+            assert renewed(rec, Chart(kind, wide_base(kind, centre), front + far + near, 0, 0)) == b"refused 16"
+        # An open verdict: 8 comes before 16.
+        for chart in splits(kind, far[-2:] + near, 1):
+            for out in (centre + 9999, centre - 9999):
+                series = chart.series[:-1] + (out,)
+                if model.in_range(kind, out) and model.judge(kind, chart.base, series) == 1:
+                    for status in (1, 2):
+                        renewed(rec, chart._replace(series=series, status=status, verdict=1))
+    # READINGS-02 11 and 12, and the same turned over and moved.
+    for kind, way, centre in ((1, 1, 0), (1, 1, 50), (2, -1, 10000), (3, 1, 0), (3, -1, -77)):
+        for base, posts in (((15, 0, 0, 0, 6, 15, 0, 0, 0, 4, 0, 0, 0, 0, 0), 3), ((100, 70) + (0,) * 13, 1)):
+            rec.read_chart(Chart(kind, tuple(centre + way * word for word in base), (), 0, 0))
+            for _ in range(posts + 1):
+                stored = rec.store()
+                rec.do("renew")
+                rec.do("show")
+                restore(rec, stored)
+                rec.post(centre)
+            rec.do("renew")
+            rec.do("show")
+
+
+def small_bases(rec):
+    """Bases of 10 to 14 words: read, judged, reanalysed, written, read again, and renewed from 15 words on."""
+    for kind, centre in ((1, 1000), (2, 10000), (3, -1000)):
+        for size in range(10, 15):
+            base = near_words(centre, size, 20)
+            chart = Chart(kind, base, (), 0, 0)
+            rec.read_chart(chart)
+            for command in ("show", "lines", "write", "renew", "correct"):
+                rec.do(command)
+            places = choices.places(chart)
+            for word in (centre, places[5], places[5] + 1, places[6], places[6] - 1):
+                rec.read_chart(chart)
+                rec.post(word)
+                if rec.chart.status == 1:
+                    stored = rec.store()
+                    rec.reanalyse(word)
+                    rec.do("write")
+                    rec.do("correct")
+                    rec.do("renew")
+                    rec.reanalyse(centre)
+                    restore(rec, stored)
+                    rec.reanalyse(places[5])
+                rec.do("write")
+                restore(rec, rec.store())
+                rec.do("renew")
+            # Posts until there are 14 words, 15 and 16.
+            rec.read_chart(chart)
+            for step in range(17 - size):
+                stored = rec.store()
+                rec.do("renew")
+                rec.do("show")
+                restore(rec, stored)
+                rec.post(centre + (step % 3 - 1) * 20)
+            # One word of the base is removed with more words after it. With 11 words or more it is not read.
+            near = near_words(centre, size - 1, 0)
+            for words in (near + (centre + 1,), (centre + 1,) + near):
+                chart = Chart(kind, words, (), 0, 0)
+                if rec.read_chart(chart) != b"read":
+                    continue
+                for _ in range(18 - size):
+                    rec.do("renew")
+                    if rec.chart != chart:
+                        break
+                    rec.post(centre)
+                    chart = rec.chart
+                rec.do("show")
+        # A build or a renewal leaves 15 words or more, and the next base is never below 15.
+        rec.read_chart(Chart(kind, (centre,) * 10, (), 0, 0))
+        for word in (centre,) * 5:
+            rec.post(word)
+        for command in ("renew", "renew", "show", "write", "lines"):
+            rec.do(command)
+
+
+def full_without_renewal(rec):
+    """READINGS-02 14: full series of which no tail will do. The last word of each is posted."""
+    for kind, ways, centre in ((1, (1,), 700), (2, (1, -1), 10000), (3, (1, -1), 0), (3, (-1,), -900)):
+        near = near_words(centre, 14, 0)
+        far = choices.far_words(kind, near, ways, 18)
+        # Neighbours are exchanged, so that no seven words rise or fall.
+        far = tuple(word for at in range(0, 18, 2) for word in (far[at + 1], far[at]))
+        series = (centre,) * 334 + far + near
+        base = (centre - 500, centre + 500) * 16
+        for chart in (Chart(kind, base, series[:-1], 0, 0), Chart(kind, base, series, 0, 0)):
+            rec.read_chart(chart)
+            if len(chart.series) == 365:
+                rec.do("renew")
+                rec.read_chart(chart)
+            rec.post(centre)
+            for command in ("renew", "show", "write", "correct", "renew"):
+                rec.do(command)
+            rec.post(centre)
+        # Only a new build helps.
+        rec.build(kind, (centre,) * 15)
+        rec.do("show")
+
+
+def random_tails(rec, rng):
+    """Random renewals. Of each sort there are two at most: by the kind, the tail used and the tails that will do."""
+    met = {}
+    for _ in range(2000):
+        kind = rng.choice(choices.KINDS)
+        sizes = [0] * rng.choice((4, 8, 12)) + [rng.choice((2, 3, 4)) ** power for power in range(1, rng.randint(2, 9))]
+        words = [3000 + rng.choice((1, 1 if kind == 1 else -1)) * min(2500, rng.choice(sizes))
+                 for _ in range(rng.randint(15, 50))]
+        size = rng.randint(10, min(32, len(words)))
+        chart = Chart(kind, tuple(words[:size]), tuple(words[size:]), 0, 0)
+        if not model.sound(chart):
+            continue
+        left = list(choices.tail_lengths(kind, words).values())
+        used = choices.tail_used(kind, words)
+        sort = kind, used, any(first > second for first, second in zip(left, left[1:])), len(set(left)) > 8
+        met[sort] = met.get(sort, 0) + 1
+        if met[sort] <= 2:
+            renewed(rec, chart)
+
+
 def open_states(rec, rng):
     """Every verdict for each kind, and the edges of every reanalysis."""
     comment(rec, "open verdicts and the edges of reanalysis")
     for kind, base in BASES + tuple((kind, None) for kind in choices.KINDS for _ in range(2)):
         if base is None:
             base = plausible_base(rng, kind)
-        if rec.build(kind, base).startswith(b"refused"):
+        if rec.build_or_read(kind, base) == b"refused 3":
             continue
         rec.do("lines")
         for word in [rng.choice(choices.candidates(rec.chart)) for _ in range(rng.randrange(3))]:
             if rec.chart.status == 0:
                 rec.post(word, rng)
         if rec.chart.status != 0:
-            rec.build(kind, base)
+            rec.build_or_read(kind, base)
         start = rec.store()
         for verdict in (1, 2, 3, 4):
             for way in (1, -1):
@@ -630,7 +933,7 @@ def full_series(rec, rng):
 def renewals(rec, rng):
     """Renewal, and bases of fewer than 15 words."""
     comment(rec, "renewal")
-    rec.build(1, TEN)
+    rec.build_or_read(1, TEN)
     rec.do("write")
     for count in range(6):
         rec.do("renew")
@@ -639,7 +942,7 @@ def renewals(rec, rng):
     rec.do("show")
     rec.do("renew")
     # Base of ten with a verdict open: 8 before 12.
-    rec.build(1, TEN)
+    rec.build_or_read(1, TEN)
     rec.post(5)
     rec.do("renew")
     rec.reanalyse(0)
@@ -650,7 +953,7 @@ def renewals(rec, rng):
                 rec.read_chart(Chart(kind, (700,) * size, (701,), status, 1))
                 rec.do("renew")
                 rec.do("post", 0, -1, 0, 0)
-    rec.build(1, (1000,) * 14 + (2000,))
+    rec.build_or_read(1, (1000,) * 14 + (2000,))
     rec.do("renew")
     rec.post(1000)
     rec.do("renew")
@@ -897,7 +1200,7 @@ def line_charts(rec, rng):
         cases.append((rng.choice((2, 3)), (0,) * (size // 2) + (1,) * (size - size // 2)))
         cases.append((3, (-3,) * (size // 3) + (-2,) * (size - size // 3)))
     for kind, base in cases:
-        rec.build(kind, base)
+        rec.build_or_read(kind, base)
         rec.do("lines")
     # Exact multiples of a 256th: sixteen words have the mean in sixteenths; S is whole for the others.
     for half in range(7, 16):
@@ -916,17 +1219,17 @@ def line_charts(rec, rng):
         reach = model.isqrt(times * times * n * v // (n - 1))
         shift = (reach - total) // n + rng.choice((0, 1))
         way = rng.choice((1, -1))
-        rec.build(3, [way * (word + shift) for word in base])
+        rec.build_or_read(3, [way * (word + shift) for word in base])
         rec.do("lines")
     for _ in range(60):
         kind = rng.choice(choices.KINDS)
-        rec.build(kind, choices.random_base(rng, kind))
+        rec.build_or_read(kind, choices.random_base(rng, kind))
         rec.do("lines")
     for _ in range(20):
         base = choices.random_base(rng, 3)
-        rec.build(3, base)
+        rec.build_or_read(3, base)
         rec.do("lines")
-        rec.build(3, [-word for word in base])
+        rec.build_or_read(3, [-word for word in base])
         rec.do("lines")
     for size in (10, 11, 12, 13, 14):
         for spread in (0, 1, 250):
@@ -939,7 +1242,7 @@ def random_runs(rec, rng, count):
     comment(rec, "runs")
     for _ in range(count):
         kind = rng.choice(choices.KINDS)
-        rec.build(kind, plausible_base(rng, kind))
+        rec.build_or_read(kind, plausible_base(rng, kind))
         for _ in range(rng.randint(10, 30)):
             chart = rec.chart
             if chart.status == 2:
@@ -996,7 +1299,8 @@ def language(rec):
         rec.raw(("build " + fields).encode())
     for fields in ("2", "0", "99999999999999999999", "-1", "2 99999999999999999999999", "3" + " 00010" * 15,
                    "00002" + " -0" * 15, "2" + " " + " ".join(["1"] * 14 + ["9" * 400]), "2" + " -00001" * 15,
-                   "3 " + " ".join(["-5"] * 14 + ["0" * 300 + "7"]), "1" + " -0" * 16, "65537" + " 1" * 15,
+                   "3 " + " ".join(["-5"] * 14 + ["0" * 300 + "7"]), "3 " + " ".join(["-5"] * 15 + ["0" * 300 + "7"]),
+                   "1" + " -0" * 16, "65537" + " 1" * 15,
                    "2 " + " ".join(["5"] * 14 + ["-" + "9" * 60]), "1" + " 99999999999999999999" * 2):
         rec.raw(("build " + fields).encode())
         rec.do("show")
@@ -1126,6 +1430,7 @@ def make():
     posts_and_reanalyses(rec)
     one_side_before_trend(rec)
     halves_to_even(rec)
+    fifteen_standing(rec)
     refusals(rec, rng)
     open_states(rec, apart(rng, 10289))
     renewals(rec, rng)

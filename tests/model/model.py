@@ -1,4 +1,4 @@
-"""A model of document 01, the paper on control charts, with requests Q-1, Q-3 and Q-5 of document 02.
+"""A model of document 01, the paper on control charts, with requests Q-1, Q-3, Q-4 and Q-5 of document 02.
 
 It uses whole numbers only.
 
@@ -15,8 +15,11 @@ BASE_MOST = 32
 SERIES_MOST = 366
 SCALE = 256
 
-# Stored form: a base has at least ten words.
+# Stored form: a base has at least ten words. document 02, Q-4: this floor is a fact about charts that were read.
 BASE_LEAST = 10
+
+# document 02, Q-4: after a build or a renewal, a base has at least fifteen words.
+STANDING_LEAST = 15
 
 # From readings to words: the ranges.
 READING_MOST = 1000000000
@@ -188,7 +191,10 @@ def reject(kind, words):
 
 
 def build(kind, words):
-    """Base, limits, rejection: the chart, the rounds, the number removed. Refusals 1, 2, 3."""
+    """Base, limits, rejection: the chart, the rounds, the number removed. Refusals 1, 2, 3, 16.
+
+    document 02, Q-4: a build is refused with 16 if fewer than fifteen words stand at the end.
+    """
     if kind not in (1, 2, 3):
         raise Refused(1)
     if not BUILD_LEAST <= len(words) <= BASE_MOST:
@@ -196,6 +202,8 @@ def build(kind, words):
     if not all(in_range(kind, word) for word in words):
         raise Refused(3)
     base, rounds, removed = reject(kind, tuple(words))
+    if len(base) < STANDING_LEAST:
+        raise Refused(16)
     return Chart(kind, base, (), 0, 0), rounds, removed
 
 
@@ -291,8 +299,22 @@ def correct(chart):
     return chart._replace(status=1)
 
 
+def tails(words):
+    """document 02, Q-4: the tails that renewal tries, in their order: the last 15 words, then the last 16, and so on.
+
+    The last of them has 32 words, or all there are. There is none if there are fewer than 15.
+    """
+    longest = min(BASE_MOST, len(words))
+    return [words[len(words) - count:] for count in range(BUILD_LEAST, longest + 1)]
+
+
 def renew(chart):
-    """The machine, renewal: next chart, rounds, number removed. Refusals 14, 8, 12."""
+    """The machine, renewal: next chart, rounds, number removed. Refusals 14, 8, 12, 16.
+
+    document 02, Q-4: of the tails of the base followed by the series, the shortest is used of which at least fifteen
+    words stand. Rounds and number removed are those of this tail. A longer tail may leave fewer words than a shorter
+    one. So every tail is tried by itself, and the first that will do is used.
+    """
     if not sound(chart):
         raise Refused(14)
     if chart.status != 0:
@@ -300,8 +322,11 @@ def renew(chart):
     words = chart.base + chart.series
     if len(words) < BUILD_LEAST:
         raise Refused(12)
-    base, rounds, removed = reject(chart.kind, words[-BUILD_LEAST:])
-    return chart._replace(base=base, series=()), rounds, removed
+    for tail in tails(words):
+        base, rounds, removed = reject(chart.kind, tail)
+        if len(base) >= STANDING_LEAST:
+            return chart._replace(base=base, series=()), rounds, removed
+    raise Refused(16)
 
 
 # Stored form

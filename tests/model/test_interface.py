@@ -19,12 +19,13 @@ A = (9900,) * 7 + (10100,) * 7 + (10000,)
 C = (10000,) * 7 + (10001,) * 8
 J = (296,) * 7 + (304,) * 7 + (300,)
 K = (900,) * 7 + (1100,) * 7 + (1000,)
+HIGH = (1000,) * 14 + (2000,)
 Y = (200,) * 7 + (400,) * 7 + (300,)
 
 # The stored form of a fresh A, by hand: ac 26 is 9900, 74 27 is 10100, 10 27 is 10000.
 A_FORM = bytes.fromhex("0800 0100 0200 0000 0000 2000 0200" + "ac26" * 7 + "7427" * 7 + "1027" + "0200 0300")
 
-# The texts, by hand from their description: of the answers 0 to 15, of the verdicts 0 to 4, and of other numbers.
+# The texts, by hand from their description: of the answers 0 to 16, of the verdicts 0 to 4, and of other numbers.
 ANSWERS = """\
 done
 the kind is not 1, 2 or 3
@@ -42,6 +43,7 @@ base and series together have fewer than 15 words
 the bytes are not a stored form
 there is no chart, or it is not sound
 the buffer is too short
+fewer than 15 words stand after rejection
 """.splitlines()
 VERDICTS = """\
 none
@@ -132,7 +134,8 @@ def test_refused_starts():
     """Numbers for what is declined: a refused build or read gives a chart of zeros; reading 24."""
     unsound = model.stored_form(Chart(2, A, (), 3, 0))
     same(refusal(model.read, unsound), 14)
-    for start, given in ((built, (4, A)), (built, (2, A[:14])), (model.read, (b"",)), (model.read, (unsound,))):
+    for start, given in ((built, (4, A)), (built, (2, A[:14])), (built, (1, HIGH)), (model.read, (b"",)),
+                         (model.read, (unsound,))):
         value = value_of(start_or_zeros(start, *given))
         same(value, (0, (0,) * 32, 0, (0,) * 366, 0, 0, 0))
         same(refusal(chart_of, value), 14)
@@ -215,6 +218,10 @@ def test_lists():
             (built, (2, fourteen), (3,) * 5, 3, "start refused 2"),
             (built, (4, fourteen), (3,) * 5, 3, "start refused 1"),
             (built, (1, (-1,) * 15), (), 0, "start refused 3"),
+            (built, (1, HIGH[:14] + (20001,)), (), 0, "start refused 3"),
+            (built, (1, HIGH), (), 0, "start refused 16"),
+            (built, (1, HIGH), (3,) * 5, 2, "no room"),
+            (built, (1, HIGH), (3,) * 6, 9, "no list"),
             (model.read, (b"",), (3,) * 5, 3, "start refused 13"),
             (model.read, (unsound,), (3,) * 5, 3, "start refused 14")):
         same(run_list(start, given, numbers, (7,) * room), (wanted, (7,) * room, model.ZEROS))
@@ -314,6 +321,73 @@ def test_halves_to_even():
         same((lines, made.count(lines)), (lines, 1))
 
 
+def test_fifteen_standing():
+    """Document 02, Q-4: on chart values, in lists and on lent bytes; readings 10 to 14 of document 02."""
+    # Chart values: what a renewal leaves in every place. The tail that is used has 16 words.
+    base = (15, 0, 0, 0, 6, 15, 0, 0, 0, 4, 0, 0, 0, 0, 0)
+    renewed, rounds, removed = on_value(value_of(Chart(1, base, (0, 0, 0), 0, 0)), model.renew)
+    same((rounds, removed, renewed.base_len, renewed.series_len), (2, 1, 15, 0))
+    same((renewed.base, renewed.series), ((0, 0, 6, 0, 0, 0, 4) + (0,) * 25, (0,) * 366))
+    far = Chart(1, (100, 70) + (0,) * 13, (0,), 0, 0)
+    same(refusal(on_value, value_of(far), model.renew), 16)
+    same(refusal(on_value, value_of(far)._replace(status=9), model.renew), 14)
+    # Values with a base of 10 to 14 words are sound.
+    for size in range(10, 15):
+        value = value_of(Chart(2, (1000,) * size, (), 0, 0))
+        same(on_value(value, model.post, 2, 1001, 10000, 0)[1:], (1001, 1))
+        same(refusal(on_value, value, model.renew), 12)
+    # Lists: a renewal that is refused, a post, and a renewal that is accepted; then the course's post on a chart read.
+    numbers = (4, 0, 0, 0, 0, 1, 1, 5, 5, 0, 4, 0, 0, 0, 0, 4, 0, 0, 0, 0)
+    same(run_list(model.read, (model.stored_form(far),), numbers, (7,) * 12),
+         ("done", (0, 16, 0, 1, 0, 0, 4, 1, 0, 4, 1, 0), Chart(1, (0,) * 15, (), 0, 0)))
+    same(run_list(built, (1, far.base), (1, 1, 5, 5, 0) + numbers, (7,) * 15),
+         ("done", (1, 0, 0, 0, 16, 0, 1, 0, 0, 4, 1, 0, 4, 1, 0), Chart(1, (0,) * 15, (), 0, 0)))
+    fourteen = model.stored_form(Chart(1, HIGH[:14], (), 0, 0))
+    same(run_list(model.read, (fourteen,), (4, 0, 0, 0, 0, 1, 1, 21001, 18999, 0, 4, 0, 0, 0, 0), (7,) * 9),
+         ("done", (0, 12, 0, 1, 1001, 1, 0, 8, 0), Chart(1, HIGH[:14], (1001,), 1, 1)))
+    # Lent bytes: a refused build and a refused renewal leave every byte and the size.
+    lent = LentChart(b"\x77" * 60, 9)
+    same(refusal(lent.build, 1, 60, HIGH), 16)
+    same((lent.bytes, lent.size), (b"\x77" * 60, 9))
+    same(lent.build(1, 48, (1000,) + HIGH), (2, 1))
+    same((lent.bytes[10:44].hex(), lent.size), ("20000200" + "e803" * 15, 48))
+    lent = lent_chart(model.stored_form(far), 50)
+    before = bytes(lent.bytes)
+    same(refusal(lent.renew), 16)
+    same((lent.bytes, lent.size), (before, 50))
+    # The form of a renewal is never longer than the form before it. So it needs no more room, and 15 does not occur.
+    for kind, words, series, size in ((1, base, (0, 0, 0), 54), (1, (2, 2, 1) + (0,) * 14, (), 52),
+                                      (3, (0, 20, -10) + (0,) * 7, (0,) * 7, 52)):
+        form = model.stored_form(Chart(kind, words, series, 0, 0))
+        lent = lent_chart(form, len(form), b"")
+        same(len(form), size)
+        lent.renew()
+        same(lent.size <= size, True)
+    # The lines of the calls.
+    made = make_calls.files()[make_calls.PATH].decode("ascii")
+    for lines in (
+            "build 1 820 / 14*1000 2000 = 16\nbuild 1 820 / 15*1000 2000 = 0 2 1 / 15*1000\n",
+            "build 1 820 / 16*1000 2000 = 0 2 1 / 16*1000\n",
+            "build 1 0 / 14*-1 = 2\nbuild 1 0 / 15*-1 = 3\nbuild 1 0 / 14*-1 20000 = 3\nbuild 1 0 / 14*1000 2000 = 16\n"
+            "build 1 0 / 15*1000 2000 = 15\n",
+            "chart 1 0 0 / 15 3*0 6 15 3*0 4 5*0 / 3*0\ntold 54 54\nrenew = 0 2 1 / 0 0 6 3*0 4 8*0\n",
+            "chart 1 0 0 / 20 6*0 150 0 0 / 100 5*0\nrenew = 0 1 0 / 6*0 150 0 0 100 5*0\n",
+            "chart 3 0 0 / 6*0 -3 -30 0 0 / 0 0 -2 4*0\nrenew = 0 2 1 / 5*0 -3 4*0 -2 4*0\n",
+            "chart 1 0 0 / 100 70 13*0 / 0\nrenew = 16\nform ",
+            "post 1 5 5 0 = 0 0 0\nrenew = 0 1 0 / 15*0\n"
+            "form 08000100010000000000 20000200 " + "0000" * 15 + " 02000300\n# 8 comes before 16, and 12 before 16.\n",
+            "chart 1 1 1 / 100 70 13*0 / 120\nrenew = 8\nchart 1 2 1 / 100 70 13*0 / 120\nrenew = 8\n",
+            "chart 1 0 0 / 1 9*0 / 4*0\nrenew = 12\npost 1 5 5 0 = 0 0 0\nrenew = 16\n",
+            "chart 1 0 0 / 2 2 1 14*0 /\nrenew = 0 1 0 / 2 2 1 14*0\n",
+            "chart 2 0 0 / 10000 10020 9990 7*10000 / 7*10000\nrenew = 0 3 2 / 15*10000\n"
+            "chart 2 0 0 / 10000 10020 9990 7*10000 / 6*10000\nrenew = 16\n",
+            "-10 7 -5 3 -2 1 14*0\nrenew = 0 18 17 / 15*0\n", "-10 7 -5 3 -2 1 14*0\nrenew = 16\n",
+            "19 7 10 3 5 1 2 13*0\npost 1 5 5 0 = 0 0 0\npost 1 5 5 0 = 9\nrenew = 16\nrenew = 16\ncheck = 0\n",
+            "refusal_text 16 64 = 0 fewer than 15 words stand after rejection\n"
+            "refusal_text 17 64 = 0 no such number\n"):
+        same((lines, made.count(lines)), (lines, 1))
+
+
 def lent_chart(form, room=None, behind=b"\x77" * 6):
     """Lent bytes with a form at their front and some bytes after it."""
     lent = LentChart(form + behind, len(form))
@@ -361,7 +435,9 @@ def test_order_for_c():
     for kind, base, least in ((1, K, 3), (2, A, 5), (3, A, 5)):
         lent = lent_chart(model.stored_form(Chart(kind, base, (), 0, 0)))
         same([refusal(lent.lines, room) for room in range(8)], [15] * least + [0] * (8 - least))
-    for kind, words, wanted in ((4, (-1,) * 14, 1), (1, (-1,) * 14, 2), (1, (-1,) * 15, 3), (2, (-1,) * 15, 15)):
+    # Document 02, Q-4: 16 comes after 3 and before 15. The word out of range would be removed too.
+    for kind, words, wanted in ((4, (-1,) * 14, 1), (1, (-1,) * 14, 2), (1, (-1,) * 15, 3), (2, (-1,) * 15, 15),
+                                (1, HIGH[:14] + (20001,), 3), (1, HIGH, 16), (1, (1000,) + HIGH, 15)):
         lent = LentChart(b"\x77" * 47, 5)
         same(refusal(lent.build, kind, 47, words), wanted)
         same((lent.bytes, lent.size), (b"\x77" * 47, 5))
@@ -422,8 +498,8 @@ def text_of(texts, other, number):
 
 def test_texts():
     """The header: the text of every answer and of every verdict, the version, and the room that each needs."""
-    same((len(ANSWERS), len(VERDICTS)), (16, 5))
-    numbers = (*range(18), 255, 256, 264, 65535, 65536, 65537, 65544, 2 ** 31 + 8, 2 ** 32 - 1)
+    same((len(ANSWERS), len(VERDICTS)), (17, 5))
+    numbers = (*range(19), 255, 256, 264, 65535, 65536, 65537, 65544, 2 ** 31 + 8, 2 ** 32 - 1)
     for function, texts, other in ((interface.refusal_text, ANSWERS, OTHER_NUMBER),
                                    (interface.verdict_text, VERDICTS, OTHER_VERDICT)):
         for number in numbers:
@@ -434,13 +510,13 @@ def test_texts():
                 same((number, room, refusal(function, number, room)), (number, room, 15))
         for number, room in ((-1, 64), (2 ** 32, 64), (2 ** 32 + 8, 64), (8, -1), (8, 2 ** 64)):
             same(is_no_input(function, number, room), True)
-    same([interface.version(room) for room in (6, 7, 64)], ["1.2.0"] * 3)
+    same([interface.version(room) for room in (6, 7, 64)], ["1.3.0"] * 3)
     same([refusal(interface.version, room) for room in (0, 1, 4, 5, 6)], [15] * 4 + [0])
     same([is_no_input(interface.version, room) for room in (-1, 2 ** 64)], [True] * 2)
     # The header has the same version, and the rooms that are enough for everything.
     with open(os.path.join(expected.ROOT, "include", "control_chart.h"), encoding="ascii") as file:
         header = file.read()
-    same(re.findall(r'(?m)^#define CONTROL_CHART_VERSION "(.*)"$', header), ["1.2.0"])
+    same(re.findall(r'(?m)^#define CONTROL_CHART_VERSION "(.*)"$', header), ["1.3.0"])
     same((interface.TEXT_MOST, interface.FORM_MOST, interface.LINES_MOST), (64, 814, 5))
     same(max(len(text) for text in ANSWERS + VERDICTS + [OTHER_NUMBER, OTHER_VERDICT]) < 64, True)
 
@@ -450,19 +526,23 @@ def test_made_texts():
     for asked, wanted in (
             ("refusal_text 8 64", "refusal_text 8 64 = 0 a reanalysis or a correction is due"),
             ("refusal_text 65544 64", "refusal_text 65544 64 = 0 no such number"),
+            ("refusal_text 16 64", "refusal_text 16 64 = 0 fewer than 15 words stand after rejection"),
+            ("refusal_text 16 42", "refusal_text 16 42 = 0 fewer than 15 words stand after rejection"),
+            ("refusal_text 16 41", "refusal_text 16 41 = 15"),
+            ("refusal_text 17 15", "refusal_text 17 15 = 0 no such number"),
             ("refusal_text 0 5", "refusal_text 0 5 = 0 done"), ("refusal_text 0 4", "refusal_text 0 4 = 15"),
             ("verdict_text 4 39", "verdict_text 4 39 = 0 seven in a row on one side of the mean"),
             ("verdict_text 4 38", "verdict_text 4 38 = 15"),
             ("verdict_text 65537 64", "verdict_text 65537 64 = 0 no such verdict"),
-            ("version 6", "version 6 = 0 1.2.0"), ("version 5", "version 5 = 15"),
+            ("version 6", "version 6 = 0 1.3.0"), ("version 5", "version 5 = 15"),
             # A text changes nothing in the lent chart.
-            ("chart 1 0 0 / 10*0 /\nversion 64\ncheck", "chart 1 0 0 / 10*0 /\nversion 64 = 0 1.2.0\ncheck = 0")):
+            ("chart 1 0 0 / 10*0 /\nversion 64\ncheck", "chart 1 0 0 / 10*0 /\nversion 64 = 0 1.3.0\ncheck = 0")):
         same(make_calls.made(asked), wanted)
     for asked in ("refusal_text 4294967296 64", "verdict_text -1 64", "version -1", "version 6 / 6", "texts 1 64"):
         same(is_no_input(make_calls.made, asked), True)
     made = make_calls.files()[make_calls.PATH].decode("ascii").split("\n")
     for name, texts, other, others in (
-            ("refusal_text", ANSWERS, OTHER_NUMBER, (16, 255, 65535, 65536, 65544, 2 ** 32 - 1)),
+            ("refusal_text", ANSWERS, OTHER_NUMBER, (17, 255, 65535, 65536, 65544, 2 ** 32 - 1)),
             ("verdict_text", VERDICTS, OTHER_VERDICT, (5, 65537, 2 ** 32 - 1))):
         numbers = (*range(len(texts)), *others)
         wanted = [(number, 64) for number in numbers]
@@ -478,7 +558,7 @@ def test_made_texts():
             answer = "0 " + text if room > len(text) else "15"
             same(line, "%s %d %d = %s" % (name, number, room, answer))
     same([line for line in made if line.startswith("version")],
-         ["version 64 = 0 1.2.0", "version 6 = 0 1.2.0", "version 5 = 15", "version 1 = 15", "version 0 = 15"])
+         ["version 64 = 0 1.3.0", "version 6 = 0 1.3.0", "version 5 = 15", "version 1 = 15", "version 0 = 15"])
     # They have a section of their own, after all other calls, and the head has a line for each of them.
     start = made.index("# ---- Texts refuse 15")
     names = {line.split()[0] for line in made[start:] if line and not line.startswith("#")}
@@ -535,7 +615,7 @@ def test_made_cases():
     made = make_cases.files()
     labels = made["crates/cases/stdin"].decode().splitlines()
     lines = made["crates/cases/stdout"].decode().splitlines()
-    same(len(labels), 80)
+    same(len(labels), 83)
     same(len(set(labels)), len(labels))
     same([label for label in labels if len(label) > 100], [])
     same([line for label, line in zip(labels, lines) if not line.startswith(label)], [])
@@ -557,6 +637,16 @@ def test_made_cases():
                  "A, 47 bytes lent: refused 15:" + " aa" * 47,
                  "A with kind 4, 9 bytes lent: refused 14:" + " aa" * 9,
                  "C, 10002 against the lines: lower warning 0, upper warning 1, lower control 0, upper control 0",
+                 # Document 02, Q-4: a base of ten is read, a start with fourteen words standing is refused with 16, and
+                 # a refused build gives the chart of zeros.
+                 "0 ten times, kind 1, read back: kind 1 base of 10:" + " 0" * 10
+                 + "; series of 0:, status 0 verdict 0",
+                 "1000 fourteen times and 2000, kind 1, one call: start refused 16; answers" + " 7" * 24
+                 + "; chart kind 0 base 0 series 0 status 0 verdict 0; refused 14",
+                 "stored base of fourteen, a renewal, a post and a renewal: done; answers 0 12 0 1 1000 0 4 1 0"
+                 + " 7" * 15 + "; chart kind 1 base 15 series 0 status 0 verdict 0; lines" + " 1000.00000000" * 3,
+                 "1000 fourteen times and 2000, kind 1, building: chart kind 0 base 0 series 0 status 0 verdict 0; "
+                 "base places" + " 0" * 32 + "; series places" + " 0" * 366,
                  "kind 4, A's words, building: chart kind 0 base 0 series 0 status 0 verdict 0; base places" + " 0" * 32
                  + "; series places" + " 0" * 366,
                  "no bytes, reading: chart kind 0 base 0 series 0 status 0 verdict 0; base places" + " 0" * 32
@@ -566,8 +656,8 @@ def test_made_cases():
 
 def main():
     for test in (test_charts_handed_in, test_calls_on_values, test_refused_starts, test_writing, test_against_lines,
-                 test_lists, test_one_side_before_trend, test_halves_to_even, test_order_for_c, test_calls_for_c,
-                 test_texts, test_made_texts, test_made_calls, test_made_cases):
+                 test_lists, test_one_side_before_trend, test_halves_to_even, test_fifteen_standing, test_order_for_c,
+                 test_calls_for_c, test_texts, test_made_texts, test_made_calls, test_made_cases):
         test()
     print("%d passed, 0 failed" % PASSED)
 

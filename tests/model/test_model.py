@@ -38,7 +38,8 @@ Z = (1000,) * 15
 
 # Document 01, figures from the course: all cases with their commands and answers. {A}, {B} and {C} stand for words.
 # Document 02, Q-1: the seven posts from 10010 to 10070 end in 4. Document 02, Q-3: 65 and 63 give 312, the spike 0, 1,
-# 32 gives -312, and 200005 over 100000 gives 20000.
+# 32 gives -312, and 200005 over 100000 gives 20000. Document 02, Q-4: 1000 fourteen times and 2000 no longer build, and
+# the post of 1001 is told of a chart that was read.
 FIGURES = """\
 # duplicate X1 1, X2 2
 word 1 1 2 0 = word 6667
@@ -102,13 +103,15 @@ show = chart kind 2 status 2 verdict 4 base 15 {A} series 7 10010 10020 10030 10
 build 2 {C} = built rounds 1 removed 0
 lines = lines 10000.53125000 9999.50390625 10001.56250000 9998.98437500 10002.08203125
 # 1000 fourteen times and 2000, kind 1
-build 1 {B} 2000 = built rounds 2 removed 1
-show = chart kind 1 status 0 verdict 0 base 14 {B} series 0
-# 1000 fourteen times and 2000, kind 1, lines
-build 1 {B} 2000 = built rounds 2 removed 1
+build 1 {B} 2000 = refused 16
+# 1000 fifteen times and 2000, kind 1
+build 1 {B} 1000 2000 = built rounds 2 removed 1
+show = chart kind 1 status 0 verdict 0 base 15 {B} 1000 series 0
+# 1000 fourteen times, kind 1, lines (from store)
+read {FOURTEEN} = read
 lines = lines 1000.00000000 1000.00000000 1000.00000000
-# 1000 fourteen times and 2000, posts 1001
-build 1 {B} 2000 = built rounds 2 removed 1
+# 1000 fourteen times, posts 1001 (from store)
+read {FOURTEEN} = read
 post 1 21001 18999 0 = word 1001 verdict 1
 show = chart kind 1 status 1 verdict 1 base 14 {B} series 1 1001
 # 4135 seven times and 10000 eight times, 48 bytes lent (kind 2)
@@ -120,6 +123,9 @@ write = bytes 48 080001000200000000002000020027102710271027102710271027101027102
 UP = ("08000100020001000300"
       "20000200" + "ac26" * 7 + "7427" * 7 + "1027"
       "10000300" + "de26" "e826" "f226" "fc26" "0627" "1027" "1a27")
+
+# Document 02, Q-4: the stored form of a chart of kind 1 with 1000 fourteen times: e8 03 is 1000.
+FOURTEEN = "08000100010000000000" "1e000200" + "e803" * 14 + "02000300"
 
 # The stored form of a fresh A, and what follows its base when 10301 was posted: 3d 28.
 A_FORM = bytes.fromhex("08000100020000000000" "20000200" + "ac26" * 7 + "7427" * 7 + "1027" "02000300")
@@ -137,7 +143,7 @@ STATUSES = {
         "chart kind 0 status 0 verdict 0 base 0 series 0", "chart kind 2 status 1 verdict 4 base 0 series 0"),
     1: ("word 10301 verdict 1", "word -5 verdict 1", "word 10210 verdict 2", "word 0 verdict 3", "word 10150 verdict 4",
         "word 9790 failed", "word -9790 failed"),
-    2: ("refused 1", "refused 8", "refused 14"),
+    2: ("refused 1", "refused 8", "refused 14", "refused 16"),
     3: ("error: unknown command; control_chart help lists the commands",
         "error: line too long; a line has at most 8191 bytes"),
 }
@@ -147,18 +153,18 @@ NO_COMMAND = b"missing command; control_chart help lists the commands"
 NO_FILE = b"there is no such file; build makes it"
 REFUSED_13 = (b"it holds no stored chart (refused 13); check the name, or take the last good copy; to build anew, "
               b"move it away first")
-REFUSED_14 = (b"the chart in it is not sound (refused 14); if an older version left it open, close it with that version, "
-              b"else take the last good copy; to build anew, move it away first")
+REFUSED_14 = (b"the chart in it is not sound (refused 14); if an older version left it open, close it with that "
+              b"version, else take the last good copy; to build anew, move it away first")
 
 # The cases of files: the answers that must be met, by command. Numbers are those of refusals.
 MET_IN_FILES = {
     b"word": (b"word", 1, 5, 6, 7, b"missing", b"number", b"extra"),
-    b"build": (b"built", 1, 2, 3, b"missing", b"not"),
+    b"build": (b"built", 1, 2, 3, 16, b"missing", b"not"),
     b"post": (b"verdict 0", b"verdict 1", b"verdict 2", b"verdict 3", b"verdict 4", 4, 5, 6, 7, 8, 9, b"missing",
               b"not", b"number"),
     b"reanalyse": (b"passed", b"failed", 4, 5, 6, 7, 10, b"missing", b"not"),
     b"correct": (b"corrected", 11, b"extra"),
-    b"renew": (b"renewed", 8, 12, b"extra"),
+    b"renew": (b"renewed", 8, 12, 16, b"extra"),
     b"lines": (b"lines", b"extra"),
     b"write": (b"bytes", b"extra"),
     b"read": (b"read", 13, 14, b"not", b"odd", b"extra"),
@@ -167,6 +173,7 @@ MET_IN_FILES = {
 }
 
 # Document 01, numbers for what is declined: the example of each number that a command can answer.
+# Document 02, Q-4, has 16.
 EXAMPLES = {
     "kind 4 (a word formed alone)": 1,
     "14 words (kind 2, 10000 each)": 2,
@@ -179,9 +186,10 @@ EXAMPLES = {
     "A after that, post of X 10000 (that: 366 words, the last reanalysed)": 9,
     "A, reanalysis of X 10000, A 10000": 10,
     "A, correction": 11,
-    "1000 fourteen times and 2000, renewal": 12,
+    "1000 fourteen times, renewal (from store)": 12,
     "A, the first 0 bytes": 13,
     "status 3": 14,
+    "1000 fourteen times and 2000, kind 1": 16,
 }
 
 # The readings: the last answer of each example in them that a command can express, without that of `show`.
@@ -203,14 +211,18 @@ READINGS = {
         "-1 fifteen times and a series of -1, kind 2, read": "read"},
     8: {"A, posts 10250 9790": "word 9790 verdict 0", "K, posts 0": "word 0 verdict 0"},
     9: {"1000 fourteen times and 0, kind 1": "built rounds 1 removed 0",
-        "1000 fourteen times and 0, kind 2": "built rounds 2 removed 1", "K, posts 790 790": "word 790 verdict 0",
+        # Document 02, Q-4: kind 2 leaves 14 words.
+        "1000 fourteen times and 0, kind 2": "refused 16",
+        "1000 fifteen times and 0, kind 2": "built rounds 2 removed 1", "K, posts 790 790": "word 790 verdict 0",
         "K after 1301: 0": "word 0 passed", "K after 1210 1210: 790": "word 790 passed",
         "1000 fourteen times and 0, chart kind 1": "read", "1000 fourteen times and 0, chart kind 2": "refused 14"},
     10: {"K after 1010 down to 950: 800": "word 800 failed", "K after 1010 down to 950: 961": "word 961 passed",
          "Z, posts 100 up to 700 by hundreds": "word 700 verdict 3", "Z after 100 up to 700: 1000": "word 1000 failed",
          "Z after 100 up to 700: 600": "word 600 failed", "Z after 100 up to 700: 599": "word 599 passed"},
     11: {"10000 and 10001 thirteen times, 10050, 10051, kind 2": "built rounds 2 removed 2"},
-    12: {"0 ten times, 1, 12, 144, 1728, 20000, kind 1": "built rounds 6 removed 5"},
+    # Document 02, Q-4: ten words stand. With 0 fifteen times, fifteen stand.
+    12: {"0 ten times, 1, 12, 144, 1728, 20000, kind 1": "refused 16",
+         "0 fifteen times, 1, 12, 144, 1728, 20000, kind 1": "built rounds 6 removed 5"},
     14: {"A, posts 10100 and 9950 up to 10010 by tens": "word 10010 verdict 3",
          "A after 9950 up to 10010: 10010": "word 10010 passed",
          "A after that, posts 10020 (that: 9950 up to 10010, reanalysis 10010)": "word 10020 verdict 3"},
@@ -233,8 +245,8 @@ READINGS = {
     19: {"A after 10250 10301 with status 2, correction": "corrected",
          "A after 10150 seven times with status 1: 10000": "word 10000 passed"},
     20: {"A after that, renewal (that: 10290 and 10000 fourteen times)": "renewed rounds 2 removed 1",
-         "1000 fourteen times and 2000, renewal": "refused 12",
-         "1000 fourteen times and 2000 after that, renewal (that: 999)": "renewed rounds 1 removed 0"},
+         "1000 fourteen times, renewal (from store)": "refused 12",
+         "1000 fourteen times after that, renewal (that: 999)": "renewed rounds 1 removed 0"},
     21: {"chart kind 0, the first 49 bytes": "refused 13", "first length 0": "refused 13",
          "first length 1": "refused 13", "first length 9": "refused 13", "first length 65535": "refused 13",
          "head of two numbers": "refused 13", "head of four numbers": "refused 13", "chart kind 0": "refused 14",
@@ -249,7 +261,9 @@ READINGS = {
          "P, lines": "lines 0.46484375 -0.56250000 1.49609375 -1.08203125 2.01562500"},
     27: {"Q, lines": "lines 2.52343750 0.00000000 5.05078125 -1.26171875 6.31640625"},
     28: {"W, lines": "lines 0.00000000 -40640.03906250 40640.03906250 -60960.05859375 60960.05859375"},
-    32: {"A, posts 10301": "word 10301 verdict 1", "1000 fourteen times and 2000, posts 1001": "word 1001 verdict 1"},
+    32: {"A, posts 10301": "word 10301 verdict 1",
+         "1000 fourteen times, posts 1001 (from store)": "word 1001 verdict 1",
+         "1000 fifteen times and 2000, posts 1001": "word 1001 verdict 1"},
 }
 
 # The readings of document 02, in the same way.
@@ -386,10 +400,79 @@ READINGS_02 = {
         "-313 fifteen times after that: -313 (that: series -313 from store, post of -312)": "word -313 passed",
         "J, series 313, status 0, verdict 0": "refused 14", "J, series 313, status 1, verdict 1": "read",
         "J, series 313, status 2, verdict 1": "read"},
+    # Document 02, Q-4.
+    10: {"1000 fourteen times and 2000, kind 1": "refused 16",
+         "1000 fifteen times and 2000, kind 1": "built rounds 2 removed 1",
+         "1000 sixteen times and 2000, kind 1": "built rounds 2 removed 1",
+         "1000 fourteen times and 2000, kind 2": "refused 16", "1000 fourteen times and 2000, kind 3": "refused 16",
+         "-1000 fourteen times and -2000, kind 3": "refused 16",
+         "-1000 fifteen times and -2000, kind 3": "built rounds 2 removed 1",
+         "A, then 1000 fourteen times and 2000, kind 1": "refused 16",
+         "chart of A after that, posts 10301 (that: a refused build)": "word 10301 verdict 1",
+         "500, 1000 fourteen times and 2000, kind 1": "built rounds 2 removed 1",
+         "500, 1000 fourteen times and 2000, kind 2": "refused 16",
+         "500, 1000 fifteen times and 2000, kind 2": "built rounds 3 removed 2",
+         "32 words with 0 fourteen times, kind 1": "refused 16", "32 words with 0 fourteen times, kind 2": "refused 16",
+         "32 words with 0 fourteen times, kind 3": "refused 16",
+         "32 words with 0 fifteen times, kind 1": "built rounds 18 removed 17",
+         "32 words with 0 fifteen times, kind 2": "built rounds 18 removed 17",
+         "32 words with 0 fifteen times, kind 3": "built rounds 18 removed 17",
+         "32 words with 0 sixteen times, kind 1": "built rounds 17 removed 16",
+         "1000 fourteen times and 2000, kind 4": "refused 1", "1000 thirteen times and 2000, kind 1": "refused 2",
+         "1000 fourteen times and 20001, kind 1": "refused 3"},
+    11: {"B after 0 posts, renewal": "renewed rounds 1 removed 0",
+         "B after 1 post, renewal": "renewed rounds 1 removed 0",
+         "B after 2 posts, renewal": "renewed rounds 2 removed 1",
+         "B after 3 posts, renewal": "renewed rounds 2 removed 1",
+         "wide after 0 and the last 5 of 18 far words, and 0 fourteen times, renewal": "renewed rounds 6 removed 5",
+         "wide after 0 and the last 17 of 18 far words, and 0 fourteen times, renewal": "renewed rounds 18 removed 17",
+         "wide after 0 and 17 words on both sides, and 0 fourteen times, kind 3, renewal":
+             "renewed rounds 18 removed 17",
+         "wide after 0 and 18 far words, and 0 fourteen times, renewal": "refused 16",
+         "0, 20, -10 and 0 seven times after 0 seven times, kind 2, renewal": "renewed rounds 3 removed 2",
+         "0, 20, -10 and 0 seven times after 0 six times, kind 2, renewal": "refused 16",
+         "A after that, renewal (that: 10290 and 10000 fourteen times)": "renewed rounds 2 removed 1"},
+    12: {"X after 0 posts, renewal": "renewed rounds 1 removed 0", "X after 1 post, renewal": "refused 16",
+         "X after 2 posts, renewal": "renewed rounds 1 removed 0", "X after 120 with status 1, renewal": "refused 8",
+         "X after 120 with status 2, renewal": "refused 8", "1 and 0 nine times after 4 posts, renewal": "refused 12",
+         "1 and 0 nine times after 5 posts, renewal": "refused 16",
+         "1 and 0 nine times after 6 posts, renewal": "renewed rounds 1 removed 0",
+         "2, 2, 1 and 0 fourteen times, renewal (without posts)": "renewed rounds 1 removed 0",
+         "W, renewal (without posts)": "renewed rounds 1 removed 0"},
+    13: {**{"1000 %s times from store, kind %d, %s" % (count, kind, told): answer
+            for count in ("ten", "eleven", "twelve", "thirteen", "fourteen") for kind in (1, 2, 3)
+            for told, answer in (("posts 1001", "word 1001 verdict 1"), ("renewal", "refused 12"))},
+         "base of 9 and series of 0": "refused 13", "base of 10 and series of 0": "read",
+         "1000 ten times and 1000 five times from store, renewal": "renewed rounds 1 removed 0"},
+    14: {"wide after 365 words, posts 0": "word 0 verdict 0",
+         "wide after that, renewal (that: 366 words)": "refused 16",
+         "wide after that, post of X1 5, X2 5 (that: 366 words, a refused renewal)": "refused 9",
+         "Z after that (that: a full series that is not renewed)": "built rounds 1 removed 0"},
 }
 
-# Document 02, Q-3: what is shown of a chart after a case, from its series or the end of its base on.
+# Document 02, Q-3 and Q-4: what is shown of a chart after a case, from its series or from its base on.
 SHOWN_AFTER = {
+    "1000 fifteen times and 0, kind 2": "base 15" + " 1000" * 15 + " series 0",
+    "0 fifteen times, 1, 12, 144, 1728, 20000, kind 1": "base 15" + " 0" * 15 + " series 0",
+    "1000 sixteen times and 2000, kind 1": "base 16" + " 1000" * 16 + " series 0",
+    "A, then 1000 fourteen times and 2000, kind 1": "10100 10000 series 0",
+    "500, 1000 fourteen times and 2000, kind 1": "base 15 500" + " 1000" * 14 + " series 0",
+    "500, 1000 fifteen times and 2000, kind 2": "base 15" + " 1000" * 15 + " series 0",
+    "B after 0 posts, renewal": "base 15 15 0 0 0 6 15 0 0 0 4 0 0 0 0 0 series 0",
+    "B after 1 post, renewal": "base 16 15 0 0 0 6 15 0 0 0 4 0 0 0 0 0 0 series 0",
+    "B after 2 posts, renewal": "base 15 0 0 0 6 0 0 0 4 0 0 0 0 0 0 0 series 0",
+    "B after 3 posts, renewal": "base 15 0 0 6 0 0 0 4 0 0 0 0 0 0 0 0 series 0",
+    "X after 0 posts, renewal": "base 15 100 70" + " 0" * 13 + " series 0",
+    "X after 1 post, renewal": "base 15 100 70" + " 0" * 13 + " series 1 0",
+    "X after 2 posts, renewal": "base 15" + " 0" * 15 + " series 0",
+    "2, 2, 1 and 0 fourteen times, renewal (without posts)": "base 17 2 2 1" + " 0" * 14 + " series 0",
+    "0, 20, -10 and 0 seven times after 0 six times, kind 2, renewal":
+        "base 10 0 20 -10" + " 0" * 7 + " series 6" + " 0" * 6,
+    "A after that, renewal (that: 10290 and 10000 fourteen times)": "base 15" + " 10000" * 15 + " series 0",
+    "1000 ten times from store, kind 3, posts 1001": "base 10" + " 1000" * 10 + " series 1 1001",
+    "1000 thirteen times from store, kind 2, renewal": "base 13" + " 1000" * 13 + " series 0",
+    "wide after that, renewal (that: 366 words)": "3 5 1 2" + " 0" * 14,
+    # Document 02, Q-3.
     "Y, series 313, read": "300 series 1 313",
     "Y after that, post of X1 65, X2 63 (that: series 313 from store)": "300 series 2 313 312",
     "Y after that, renewal (that: 313 from store, post of 312)": "300 313 312 series 0",
@@ -627,22 +710,22 @@ def test_stored_words():
 
 
 def test_building():
-    """Base, limits, rejection; readings 7, 9, 11, 12, 20."""
+    """Base, limits, rejection; readings 7, 9, 11, 12, 20; document 02, Q-4."""
     same(model.build(2, A), (Chart(2, A, (), 0, 0), 1, 0))
     same(model.build(2, (-1,) * 15)[1:], (1, 0))
     low = (1000,) * 14 + (0,)
     same(model.build(1, low)[1:], (1, 0))
-    same(model.build(2, low)[1:], (2, 1))
+    same(refusal(model.build, 2, low), 16)
+    same(model.reject(2, low), (B, 2, 1))
     two = (10000,) * 13 + (10001,) * 13 + (10050, 10051)
     same(model.build(2, two)[1:], (2, 2))
-    chart, rounds, removed = model.build(1, TEN)
-    same((chart.base, rounds, removed), ((0,) * 10, 6, 5))
-    same(refusal(model.renew, chart), 12)
-    one = (1000,) * 14 + (2000,)
-    chart, rounds, removed = model.build(1, one)
-    same((chart.base, rounds, removed), ((1000,) * 14, 2, 1))
+    # The figures about rejection: ten words stand, and fourteen.
+    same(model.reject(1, TEN), ((0,) * 10, 6, 5))
+    same(model.reject(1, B + (2000,)), (B, 2, 1))
+    for base in ((0,) * 10, B):
+        chart = model.read(model.stored_form(Chart(1, base, (), 0, 0)))
+        same(refusal(model.renew, chart), 12)
     same(model.post(chart, 1, *reading(1, 1001))[1:], (1001, 1))
-    same(refusal(model.renew, chart), 12)
     same(refusal(model.build, 4, A), 1)
     same(refusal(model.build, 2, A[:14]), 2)
     same(refusal(model.build, 1, (-1,) * 15), 3)
@@ -732,6 +815,223 @@ def test_sums_afresh():
         same((kind, sizes), (kind, set(range(15, 33))))
         same((kind, rounds_met >= set(range(1, 11)), at_once >= {1, 2}), (kind, True, True))
         same((kind, ways), (kind, {"falls"} if kind == 1 else {"falls", "rises", "stays"}))
+
+
+@lru_cache(maxsize=None)
+def afresh(kind, words):
+    """Rejection by fractions: the words that stand, the rounds, the number removed."""
+    rounds = rounds_afresh(kind, words)
+    base = rounds[-1][0]
+    return base, len(rounds), len(words) - len(base)
+
+
+def renewed_afresh(chart):
+    """Document 02, Q-4, from its words: the answer of a renewal, or its number.
+
+    Rejection is done on every tail. Then the least length of which 15 stand is looked for among all of them.
+    """
+    if chart.status != 0:
+        return 8
+    words = list(chart.base) + list(chart.series)
+    if len(words) < 15:
+        return 12
+    of_tails = {}
+    while len(words) >= 15:
+        if len(words) <= 32:
+            of_tails[len(words)] = afresh(chart.kind, tuple(words))
+        words.pop(0)
+    will_do = {count for count, (base, _, _) in of_tails.items() if len(base) > 14}
+    if not will_do:
+        return 16
+    base, rounds, removed = of_tails[min(will_do)]
+    return Chart(chart.kind, base, (), 0, 0), rounds, removed
+
+
+def renewed(chart):
+    """The answer of a renewal by the model, or its number."""
+    try:
+        return model.renew(chart)
+    except model.Refused as refused:
+        return refused.number
+
+
+# Wrong renewals. Each takes how many words the tail of each length leaves. It gives the length of the tail that it
+# would use, or None.
+WRONG_TAILS = {
+    "downward": lambda left: max((count for count in left if left[count] >= 15), default=None),
+    "only the last 15": lambda left: 15 if left[15] >= 15 else None,
+    "up to 31": lambda left: min((count for count in left if left[count] >= 15 and count < 32), default=None),
+    "14 are enough": lambda left: min((count for count in left if left[count] >= 14), default=None),
+    "16 must stand": lambda left: min((count for count in left if left[count] >= 16), default=None),
+    "none may go": lambda left: min((count for count in left if left[count] == count), default=None),
+    "the most words": lambda left: max(left, key=left.get) if max(left.values()) >= 15 else None,
+    "all or 32": lambda left: max(left) if left[max(left)] >= 15 else None,
+    "by halving": lambda left: halved(left, min(left), max(left)),
+    "one more for each that went": lambda left: stepped(left, min(left)),
+}
+
+
+def halved(left, low, high):
+    """A search by halving, as if every tail longer than one that will do did too."""
+    if left[high] < 15:
+        return None
+    while low < high:
+        middle = (low + high) // 2
+        low, high = (low, middle) if left[middle] >= 15 else (middle + 1, high)
+    return low
+
+
+def stepped(left, count):
+    """A search in which a tail that lacks some words is made longer by as many, as if the others stayed."""
+    while count in left and left[count] < 15:
+        count += 15 - left[count]
+    return count if count in left else None
+
+
+def chart_for_tails(rng, kind):
+    """A free sound chart: words close together, and some far away, at any place of the base and of the series."""
+    while True:
+        zero = rng.choice((0.6, 0.7, 0.8, 0.9))
+        sizes = rng.sample((2, 3, 5, 8, 15, 30, 70, 150, 400), rng.randint(1, 5))
+        total = rng.choice((15, 16, 17, 18, 20, 24, 31, 32, 33, rng.randint(10, 80)))
+        centre = rng.choice((500, 500, 10000)) * (-1 if kind == 3 and rng.random() < 0.5 else 1)
+        sides = (1,) if kind == 1 else rng.choice(((1,), (-1,), (1, -1)))
+        words = [centre + (0 if rng.random() < zero else rng.choice(sides) * rng.choice(sizes)) for _ in range(total)]
+        if rng.random() < 0.4:
+            # About 14 words at the end are close together. The words before them are the farther the earlier they are.
+            away = [rng.randint(1, 2)]
+            for _ in range(rng.randint(0, 19)):
+                away.append(int(away[-1] * rng.uniform(1.2, 1.5)) + rng.randint(1, 2))
+            words = words[:rng.randint(0, 12)] + [centre] * rng.randint(0, 3)
+            words += [centre + rng.choice(sides) * size for size in reversed(away) if size <= 450]
+            words += [centre] * rng.choice((14, 14, 14, 13, 15))
+        total = len(words)
+        size = rng.randint(10, min(32, total))
+        chart = Chart(kind, tuple(words[:size]), tuple(words[size:]), 0, 0)
+        if model.sound(chart):
+            return chart
+
+
+def test_fifteen_standing():
+    """Document 02, Q-4: figures, the order of the refusals; readings 10 to 14 of document 02."""
+    # Reading 10.
+    same(refusal(model.build, 1, B + (2000,)), 16)
+    same(model.build(1, B + (1000, 2000)), (Chart(1, Z, (), 0, 0), 2, 1))
+    same(model.build(1, B + (1000, 1000, 2000)), (Chart(1, Z + (1000,), (), 0, 0), 2, 1))
+    same(model.build(1, (500,) + B + (2000,)), (Chart(1, (500,) + B, (), 0, 0), 2, 1))
+    same(refusal(model.build, 2, (500,) + B + (2000,)), 16)
+    for words, number in (((1000,) * 13 + (2000,), 2), (B + (20001,), 3), (B + (-1,), 3), (B + (2000,), 16)):
+        same((words, refusal(model.build, 1, words), refusal(model.build, 4, words)), (words, number, 1))
+    # Reading 11.
+    chart = Chart(1, (15, 0, 0, 0, 6, 15, 0, 0, 0, 4, 0, 0, 0, 0, 0), (0, 0, 0), 0, 0)
+    words = chart.base + chart.series
+    same([len(model.reject(1, words[-count:])[0]) for count in (15, 16, 17, 18)], [14, 15, 14, 18])
+    same([tail == words[-len(tail):] for tail in model.tails(words)], [True] * 4)
+    same(model.renew(chart), (Chart(1, (0, 0, 6, 0, 0, 0, 4, 0, 0, 0, 0, 0, 0, 0, 0), (), 0, 0), 2, 1))
+    # Reading 12.
+    chart = Chart(1, (100, 70) + (0,) * 13, (), 0, 0)
+    same(model.renew(chart), (chart, 1, 0))
+    same(refusal(model.renew, chart._replace(series=(0,))), 16)
+    same(model.renew(chart._replace(series=(0, 0))), (Chart(1, (0,) * 15, (), 0, 0), 1, 0))
+    for status in (1, 2):
+        opened = Chart(1, (100, 70) + (0,) * 13, (120,), status, 1)
+        same((model.sound(opened), refusal(model.renew, opened)), (True, 8))
+    same(refusal(model.renew, Chart(1, (100, 70) + (0,) * 13, (120,), 0, 0)), 14)
+    small = Chart(1, (1,) + (0,) * 9, (), 0, 0)
+    same([refusal(model.renew, small._replace(series=(0,) * posts)) for posts in range(8)], [12] * 5 + [16, 0, 0])
+    # Reading 13: 9 words are no stored form, 10 to 32 are.
+    for size in range(9, 34):
+        form = model.stored_form(Chart(1, (1000,) * size, (), 0, 0))
+        same((size, refusal(model.read, form)), (size, 0 if 10 <= size <= 32 else 13))
+        if 10 <= size <= 32:
+            chart = model.read(form)
+            same((size, refusal(model.renew, chart)), (size, 12 if size < 15 else 0))
+            same((size, model.post(chart, 1, *reading(1, 1001))[1:]), (size, (1001, 1)))
+            same((size, model.write(chart)), (size, form))
+    # Reading 14: the words before the last 32 do not count. The word before them would make fifteen stand.
+    far = (147, 125, 105, 88, 73, 60, 49, 39, 31, 24, 19, 14, 10, 7, 5, 3, 2, 1)
+    full = Chart(1, (20000,) * 16 + (0,) * 16, (0,) * 334 + far + (0,) * 14, 0, 0)
+    same((len(full.series), model.sound(full), refusal(model.renew, full)), (366, True, 16))
+    same(refusal(model.post, full, 1, 5, 5, 0), 9)
+    same(len(model.reject(1, full.series[-33:])[0]), 15)
+    fuller = full._replace(series=full.series[19:] + (0,) * 19)
+    same(model.renew(fuller), (Chart(1, (0,) * 15, (), 0, 0), 1, 0))
+    shorter = full._replace(series=full.series[:334] + (0,) + far[1:] + (0,) * 14)
+    same(model.renew(shorter), (Chart(1, (0,) * 15, (), 0, 0), 18, 17))
+
+
+def test_tails_afresh():
+    """Document 02, Q-4: the tail used is the shortest of which 15 stand. Wrong renewals differ on many charts."""
+    rng = random.Random(7)
+    for kind in (1, 2, 3):
+        used, wrong, sorts = set(), dict.fromkeys(WRONG_TAILS, 0), set()
+        charts = [chart_for_tails(rng, kind) for _ in range(300)]
+        charts += [chart for _, words in make_vectors.shorter_better(kind) for chart in make_vectors.splits(kind, words)]
+        # The tail of 32 words is used.
+        series = (500,) + choices.far_words(kind, (500,) * 14, (1,), 17) + (500,) * 14
+        charts.append(Chart(kind, (0, 20000) * 16, series, 0, 0))
+        for chart in charts:
+            words = chart.base + chart.series
+            wanted = renewed_afresh(chart)
+            assert renewed(chart) == wanted, chart
+            if wanted == 12:
+                sorts.add(12)
+                continue
+            left = choices.tail_lengths(kind, words)
+            assert left == {count: len(afresh(kind, words[-count:])[0]) for count in left}, chart
+            assert sorted(left) == list(range(15, min(32, len(words)) + 1)), chart
+            length = choices.tail_used(kind, words)
+            used.add(length)
+            for name, search in WRONG_TAILS.items():
+                wrong[name] += search(left) != length
+            if wanted == 16:
+                sorts.add(16)
+                # A base of 15 words or more is a tail that stands, if there are no posts.
+                assert length is None and (chart.series or len(chart.base) < 15), chart
+                continue
+            base = wanted[0].base
+            assert len(base) >= 15 and model.sound(wanted[0]) and wanted[2] == length - len(base), chart
+            assert base == tuple(word for word in words[-length:] if word in base), chart
+            sorts.add("longer will not do" if any(left[count] < 15 for count in left if count > length) else "will do")
+            # The next renewal without posts is accepted too.
+            assert len(model.renew(wanted[0])[0].base) >= 15, chart
+        same((kind, [count for count in (None, *range(15, 21), 32) if count not in used]), (kind, []))
+        same((kind, sorts), (kind, {12, 16, "longer will not do", "will do"}))
+        same((kind, [name for name, times in wrong.items() if times == 0]), (kind, []))
+    # An open verdict comes first, whatever the tails are.
+    for words in ((0,) * 10, (1,) + (0,) * 14, (0,) * 32):
+        for status in (1, 2):
+            chart = Chart(2, words[:10], words[10:] + (400,), status, 1)
+            same((model.sound(chart), renewed(chart), renewed_afresh(chart)), (True, 8, 8))
+
+
+def test_far_words():
+    """Document 02, Q-4: far words that are all removed. So every tail from 15 words to 32 is used, and none will do."""
+    far = (147, 125, 105, 88, 73, 60, 49, 39, 31, 24, 19, 14, 10, 7, 5, 3, 2, 1)
+    both = (-136, 116, -98, 82, -68, 56, -46, 37, -29, 23, -18, 13, -10, 7, -5, 3, -2, 1)
+    same(choices.far_words(1, (0,) * 14, (1,), 18), far)
+    same(choices.far_words(2, (0,) * 14, (1, -1), 18), both)
+    for kind, words in ((1, far), (2, both), (3, both), (3, tuple(-word for word in far))):
+        base = (-20000, 20000) * 16 if kind != 1 else (0, 20000) * 16
+        for count in range(18):
+            series = (0,) + words[18 - count:] + (0,) * 14
+            wanted = Chart(kind, (0,) * 15, (), 0, 0), count + 1, count
+            same((kind, count, model.renew(Chart(kind, base, series, 0, 0))), (kind, count, wanted))
+            if count in (0, 1, 5, 17):
+                same((kind, count, renewed_afresh(Chart(kind, base, series, 0, 0))), (kind, count, wanted))
+        for front in ((), (0,), (0,) * 300):
+            chart = Chart(kind, base, front + words + (0,) * 14, 0, 0)
+            same((kind, renewed(chart), renewed_afresh(chart)), (kind, 16, 16))
+    # The words in which a longer tail does worse: for each kind one that will do stands before one that will not.
+    for kind in (1, 2, 3):
+        patterns = {pattern: words for pattern, words in make_vectors.shorter_better(kind)}
+        same((kind, len(patterns) > 9, all("10" in pattern for pattern in patterns)), (kind, True, True))
+        for pattern, words in patterns.items():
+            will_do = [len(afresh(kind, words[-count:])[0]) >= 15 for count in range(15, 15 + len(pattern))]
+            same((words, "".join("1" if good else "0" for good in will_do)), (words, pattern))
+            for chart in make_vectors.splits(kind, words):
+                same(renewed(chart), renewed_afresh(chart))
+                same(choices.tail_used(kind, words), 15 + pattern.index("1"))
 
 
 def test_verdicts():
@@ -836,6 +1136,13 @@ def test_order():
     same(refusal(model.reanalyse, open_chart, 2, 3, 1, 0), 7)
     same(refusal(model.correct, fresh), 11)
     same(refusal(model.renew, open_chart), 8)
+    # Document 02, Q-4: 8, 12, 16 in renewal; 1, 2, 3, 16 in building.
+    same(refusal(model.renew, Chart(1, (0,) * 10, (1,), 1, 1)), 8)
+    same(refusal(model.renew, Chart(1, (1,) + (0,) * 9, (0,) * 4, 0, 0)), 12)
+    same(refusal(model.renew, Chart(1, (1,) + (0,) * 9, (0,) * 5, 0, 0)), 16)
+    same(refusal(model.renew, Chart(1, (1,) + (0,) * 9, (0,) * 4 + (9,), 0, 0)), 14)
+    same([refusal(model.build, kind, words) for kind, words in (
+        (4, B + (20001,)), (1, B[1:] + (20001,)), (1, B + (20001,)), (1, B + (2000,)))], [1, 2, 3, 16])
     full = Chart(2, A, (9990, 10010) * 183, 0, 0)
     same(model.sound(full), True)
     same(refusal(model.post, full, 3, 1, 1, 1), 9)
@@ -1044,6 +1351,25 @@ def test_files():
     same(on_file(held, b"show")[1].split()[-3:], [b"series", b"1", b"313"])
     same(on_file(held, b"post 1 65 63 0"), (bytes.fromhex("08000100010000000000" + base + "0600030039013801"),
                                             b"word 312 verdict 0", 0, False))
+    # Document 02, Q-4: a build that is refused with 16 makes no file, and changes none. A renewal changes none either.
+    high = b"build 1" + b" 1000" * 14 + b" 2000"
+    for held in (None, A_FORM, A_OUT, bytes.fromhex(FOURTEEN)):
+        same(on_file(held, high), (None, b"refused 16", 2, False))
+    made = bytes.fromhex("08000100010000000000" "20000200" + "e803" * 15 + "02000300")
+    same(on_file(None, high.replace(b" 2000", b" 1000 2000")), (made, b"built rounds 2 removed 1", 0, False))
+    # 64 00 is 100, and 46 00 is 70.
+    held = bytes.fromhex("08000100010000000000" "20000200" "64004600" + "0000" * 13 + "040003000000")
+    same(on_file(held, b"renew"), (None, b"refused 16", 2, False))
+    more, answer, ended, _ = on_file(held, b"post 1 5 5 0")
+    same((more, answer, ended), (held[:44] + bytes.fromhex("0600030000000000"), b"word 0 verdict 0", 0))
+    same(on_file(more, b"renew"), (bytes.fromhex("08000100010000000000" "20000200" + "0000" * 15 + "02000300"),
+                                   b"renewed rounds 1 removed 0", 0, False))
+    # A file with a base of 14 words is posted to; e9 03 is 1001.
+    held = bytes.fromhex(FOURTEEN)
+    same(on_file(held, b"renew"), (None, b"refused 12", 2, False))
+    same(on_file(held, b"post 1 21001 18999 0"),
+         (bytes.fromhex("08000100010001000100") + held[10:42] + bytes.fromhex("04000300e903"), b"word 1001 verdict 1",
+          1, False))
     passed = on_file(A_OUT, b"reanalyse 2 10300 10000 0")
     same((passed[0].hex(), passed[1:]), (A_FORM[:44].hex() + "040003003c28", (b"word 10300 passed", 0, False)))
     for line, wanted in ((build, True), (b" post", True), (b"reanalyse x", True), (b"correct", True), (b"renew", True),
@@ -1066,7 +1392,7 @@ def test_file_cases():
     """The cases of files: their number, what they meet, and what holds for each."""
     pairs = file_cases()
     same(pairs == file_cases(), True)
-    same((400 <= len(pairs) <= 600, len(set(pairs))), (True, len(pairs)))
+    same((400 <= len(pairs) <= 700, len(set(pairs))), (True, len(pairs)))
     same([line for _, line in pairs if b"\0" in line or b"\n" in line or len(line) > 8191], [])
     met, errors = set(), set()
     for held, line in pairs:
@@ -1088,6 +1414,11 @@ def test_file_cases():
     same([size for size in range(50) if A_OUT[:size] not in held_all], [])
     same([place for place in range(50) if A_OUT[:place] + A_OUT[place + 1:] not in held_all], [])
     same([form in held_all for form in (b"", A_OUT + b"\0", A_OUT.hex().encode())], [True] * 3)
+    # Document 02, Q-4: files with each base from 10 words to 14, and 16 with a file and without one.
+    bases = {len(model.read(held).base) for held in held_all if held is not None and refusal(model.read, held) == 0}
+    same(sorted(bases)[:6], [10, 11, 12, 13, 14, 15])
+    refused = [(command_of(line), held is None) for held, line in pairs if on_file(held, line)[1] == b"refused 16"]
+    same(sorted(set(refused)), [(b"build", False), (b"build", True), (b"renew", False)])
 
 
 @lru_cache(maxsize=None)
@@ -1152,7 +1483,7 @@ def test_block():
     labels = [text for text, steps in texts if steps]
     headings = [text for text, steps in texts if not steps]
     same([label for label in labels if labels.count(label) > 1], [])
-    same(len(labels), 501)
+    same(len(labels), 587)
     found = {int(number) for heading in headings
              for numbers in re.findall(r"READINGS (\d+(?:, \d+)*)", heading) for number in numbers.split(", ")}
     # 13, 23 and 29 to 31 are about definitions, chart values handed in, the type of the lines, and lists. 3 is about
@@ -1162,13 +1493,13 @@ def test_block():
     found = {int(number) for heading in headings
              for numbers in re.findall(r"READINGS-02 (\d+(?:, \d+)*)", heading) for number in numbers.split(", ")}
     # 8 and 9 are about the sums of the rounds (document 02, Q-5). No command shows them.
-    same((sorted(found), sorted(READINGS_02)), ([1, 2, 3, 4, 5, 6, 7], [1, 2, 3, 4, 5, 6, 7]))
-    for request in ("document 02, Q-1: ", "document 02, Q-3: "):
+    same((sorted(found), sorted(READINGS_02)), ([*range(1, 8), *range(10, 15)],) * 2)
+    for request in ("document 02, Q-1: ", "document 02, Q-3: ", "document 02, Q-4: "):
         same((request, any(heading.startswith(request) for heading in headings)), (request, True))
 
 
 def test_outcomes():
-    """The made commands: for each kind every verdict and trend, every way in which a reanalysis ends, and halves."""
+    """The made commands: for each kind every verdict and trend, every end of a reanalysis, halves, and every tail."""
     table = made_record().table
     wanted = ["post as word 366, verdict %d" % verdict for verdict in range(5)]
     for kind in (1, 2, 3):
@@ -1192,6 +1523,26 @@ def test_outcomes():
     wanted += ["%s kind %d halfway, %s 0, whole part %s" % (command, kind, side, part)
                for command in ("word", "post", "reanalyse") for part in ("even", "odd")
                for kind, side in ((1, "above"), (2, "above"), (3, "above"), (3, "below"))]
+    # Document 02, Q-4: builds by the words that stand, renewals by the tail used, and all that is refused with 16.
+    for kind in (1, 2, 3):
+        wanted += ["build kind %d of %d words, %d standing" % (kind, size, left)
+                   for size in (15, 16, 17, 20, 32) for left in (14, 15, 16) if left <= size]
+        wanted += ["build kind %d refused 16, rounds %d" % (kind, rounds) for rounds in (2, 3, 4, 7, 19)]
+        wanted += ["renew kind %d by a tail of %d" % (kind, count) for count in range(15, 33)]
+        wanted += ["renew kind %d by a longer tail, rounds %d" % (kind, rounds) for rounds in range(1, 19)]
+        wanted += ["renew kind %d%s" % (kind, told) for told in (
+            ", not the rounds of the last 15", ", not the removals of the last 15", " refused 16",
+            " where a longer tail will not do", " where no longer tail will do")]
+        wanted += ["%s kind %d with a base of %d" % (command, kind, size)
+                   for command in ("read", "renew") for size in range(10, 15)]
+        wanted.append("renew refused 16 on a full series, kind %d" % kind)
+        if kind != 1:
+            wanted.append("renew kind %d by a longer tail, removals on both sides" % kind)
+    wanted += ["renew by all there are, %d words" % count for count in range(15, 32)]
+    wanted += ["renew without posts, a base of %d" % count for count in range(15, 33)]
+    wanted += ["renew refused 16 of %s" % count for count in (15, 16, 17, 31, "32 words or more")]
+    wanted += ["renew refused 16 with a base of 15 or more", "build refused 3 where 16 applies too",
+               "renew refused 8 where 16 applies too", "renew refused 12 where 16 applies too"]
     same([name for name in wanted if name not in table], [])
     # A trend on one side is never 3, save for kind 1, and one across the mean is never 4.
     never = [TREND_ON_ONE_SIDE.format(kind=kind, verdict=3, way=way, side=side)
@@ -1235,7 +1586,7 @@ def test_figures():
     """Figures from the course, in the made files: label, commands and answers."""
     block = dict(block_of(made_files()))
     words = {name: " ".join(map(str, base)) for name, base in (("A", A), ("B", B), ("C", C))}
-    for label, steps in cases_in(FIGURES.format(UP=UP, **words)):
+    for label, steps in cases_in(FIGURES.format(UP=UP, FOURTEEN=FOURTEEN, **words)):
         same((label, block.get(label)), (label, steps))
     lines = last_answer(block["C, lines"]).split()[1:]
     same(sorted(256 * float(line) for line in lines), [2559740, 2559873, 2560136, 2560400, 2560533])
@@ -1388,10 +1739,11 @@ def test_expected():
 
 def main():
     for test in (test_words, test_rounding, test_chosen_readings, test_stored_words, test_building, test_sums_given,
-                 test_sums_afresh, test_verdicts, test_one_side_before_trend, test_reanalysis, test_order,
-                 test_stored_form, test_lines, test_commands, test_ends_and_fronts, test_statuses, test_files,
-                 test_file_cases, test_made, test_block, test_outcomes, test_made_halves, test_figures, test_examples,
-                 test_day, test_transcript, test_expected):
+                 test_sums_afresh, test_fifteen_standing, test_tails_afresh, test_far_words, test_verdicts,
+                 test_one_side_before_trend, test_reanalysis, test_order, test_stored_form, test_lines, test_commands,
+                 test_ends_and_fronts, test_statuses, test_files, test_file_cases, test_made, test_block,
+                 test_outcomes, test_made_halves, test_figures, test_examples, test_day, test_transcript,
+                 test_expected):
         test()
     print("%d passed, 0 failed" % PASSED)
 

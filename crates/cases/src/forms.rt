@@ -32,18 +32,27 @@ fn written(a: Chart, due: Chart, bad: Chart) {
 fn returned(a: Chart, due: Chart, bad: Chart) {
     read_back(a, 1024);
     read_back(due, 1024);
-    built_and_returned(3, &[-313; 15]);
-    built_and_returned(1, &[0, 0, 0, 0, 0, 0, 0, 0, 0, 0, 1, 12, 144, 1728, 20000]);
+    negative_returned();
+    shortest_returned(a);
     longest_returned(a);
     // Writing refuses these.
     read_back(bad, 1024);
     read_back(a, 47);
 }
 
-// For words below 0, and for the shortest base.
-fn built_and_returned(kind: u16, words: &[i16]) {
-    let r = Chart::build(kind, words);
+// Words below 0.
+fn negative_returned() {
+    let r = Chart::build(3, &[-313; 15]);
     read_back(r.chart, 1024);
+}
+
+// The shortest base. No build gives it.
+fn shortest_returned(a: Chart) {
+    let mut short = a;
+    short.kind = 1;
+    short.base = [0; Chart::BASE_MOST];
+    short.base_len = Chart::BASE_LEAST;
+    read_back(short, 1024);
 }
 
 // The longest series.
@@ -123,8 +132,17 @@ pub fn refused_starts(words: &[i16]) {
     say::heading();
     let built = Chart::build(4, words);
     places(built.chart);
+    too_few_stand();
     let taken = store::read(&[]);
     places(taken.chart);
+}
+
+// Rejection removes 2000, and fourteen words stand.
+fn too_few_stand() {
+    let mut words = [1000; 15];
+    words[14] = 2000;
+    let built = Chart::build(1, &words);
+    places(built.chart);
 }
 
 fn places(chart: Chart) {

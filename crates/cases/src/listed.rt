@@ -11,6 +11,7 @@ pub fn lists_run(a: Chart, words: &[i16]) {
     not_lists(words);
     not_started(words);
     stored(a);
+    stored_fourteen();
 }
 
 // Numbers that are no list, and a list without room.
@@ -33,6 +34,10 @@ fn not_started(words: &[i16]) {
     one_call(4, &few, 3);
     from_words(2, &few, &[3; 6]);
     from_words(2, &few, &[3; 45]);
+    // Fourteen words stand.
+    let mut far = [1000; 15];
+    far[14] = 2000;
+    one_call(1, &far, 3);
 }
 
 // From the stored form of A after the post of 10301: a reanalysis and a correction.
@@ -54,6 +59,20 @@ fn not_stored(form: &[u8]) {
     let one = [3, 0, 0, 0, 0];
     from_bytes(form, &one);
     from_bytes(&[], &one);
+}
+
+// From a stored base of fourteen words: a renewal, which is refused, a post of 1000, and a renewal.
+fn stored_fourteen() {
+    let built = Chart::build(1, &[1000; 15]);
+    let mut few = built.chart;
+    few.base[14] = 0;
+    few.base_len = 14;
+    let mut form = [0; 46];
+    store::write(few, &mut form);
+    from_bytes(
+        &form,
+        &[4, 0, 0, 0, 0, 1, 1, 21000, 19000, 0, 4, 0, 0, 0, 0],
+    );
 }
 
 // ---- running a list

@@ -1,85 +1,69 @@
--- Laws of building: what its conditions decide, and its contract if it refuses and if it builds.
+-- Laws of building: what its conditions decide, and its contract: if it refuses before rejection, if too few words stand, and if it builds.
 use mathlib.Core.Path.{_≡_, refl, sym, ap, _∙_}
-use mathlib.Core.Bool.{Bool, true, false}
 use mathlib.Core.List.{List}
-use Prim.Native.Nat.{ℕ, zero, suc, _≤_}
+use Prim.Native.Nat.{ℕ, zero, suc, _<_, _≤_}
 use native.Mathlib.Omega.{arith}
-use lib.ListN.{length, take}
-use lib.Dec.{leb}
-use lib.IntN.{ℤ, pos}
-use borrow.Author.Tests.{leb-true}
+use lib.IntN.{ℤ}
+use borrow.Author.Tests.{le-leb, lt-leb}
 use Rattle.guide.specs.Choice.{require}
-use Rattle.guide.specs.Sizes.{baseWanted, baseMost}
-use Rattle.guide.specs.Kind.{isKind}
+use Rattle.guide.specs.Sizes.{baseWanted}
 use Rattle.guide.specs.State.{fresh}
 use Rattle.guide.specs.Rejection.{rejection}
-use Rattle.guide.specs.Rejection as guide
-use Rattle.guide.specs.Building.{isBuildCount, allInRange, built, refused, builtFrom, buildRefusal, building}
-use Rattle.guide.proofs.Booleans.{both}
-use Rattle.chart.specs.Pad.{pad}
-use Rattle.chart.specs.Chart.{stateOf, freshChart, zeroChart, IsSettled, buildSays, chartAfter, Builds}
+use Rattle.guide.specs.Standing.{numberStanding, fifteenStand}
+use Rattle.guide.specs.Building.{built, refused, builtFrom, buildRefusal, building}
+use Rattle.chart.specs.Chart.{stateOf, freshChart, notBuilt, buildSays, chartAfter, Builds}
 use Rattle.chart.specs.Rejection.{IsRejection}
 use Rattle.chart.specs.declared.Chart.{Chart}
-use Rattle.chart.specs.declared.Settled.{Settled}
-use Rattle.chart.specs.declared.BuildAnswer.the-variants.{Done, Refused}
+use Rattle.chart.specs.declared.Built.{Built}
+use Rattle.chart.specs.declared.BuildAnswer.the-variants.{Done}
 use Rattle.chart.specs.declared.rejection.RejectionAnswer.{RejectionAnswer}
-use Rattle.chart.proofs.Places.{take-pad}
+use Rattle.chart.proofs.Rounds.{left-standing}
 use Rattle.chart.proofs.State.{state-of-chart, fresh-is}
 
 -- ---- refusals
 
--- a number that is not 0 is the answer. If it is 0, rejection gives the answer, and the words are few enough for a base
+-- a number that is not 0 is the answer. If it is 0, rejection decides
 pub declined : (kind : ℕ) (ws : List ℤ) (n : ℕ) → n ≡ buildRefusal kind ws → (n ≡ 0 → ⊥) → building kind ws ≡ refused n
 unfolding building
 declined kind ws zero e ne = absurd (ne refl)
 declined kind ws (suc n) e ne = rw (← e)
 
-accepted : (kind : ℕ) (ws : List ℤ) (n : ℕ) → n ≡ buildRefusal kind ws → n ≡ 0 → building kind ws ≡ builtFrom kind (rejection kind ws)
+accepted : (kind : ℕ) (ws : List ℤ) → buildRefusal kind ws ≡ 0
+    → building kind ws ≡ require (fifteenStand kind ws) (refused 16) (builtFrom kind (rejection kind ws))
 unfolding building
-accepted kind ws n e z = rw (sym e ∙ z)
+accepted kind ws none = rw none
 
-count-holds : (a b c : Bool) (n : ℕ) → n ≡ require a 1 (require b 2 (require c 3 0)) → n ≡ 0 → b ≡ true
-count-holds false b c n e z = absurd (omega arith)
-count-holds true false c n e z = absurd (omega arith)
-count-holds true true c n e z = refl
+-- ---- the contract of building: a refusal before rejection, and then what rejection decides
 
-pub accepted-few : (kind : ℕ) (ws : List ℤ) (n : ℕ) → n ≡ buildRefusal kind ws → n ≡ 0 → length ws ≤ baseMost
-unfolding buildRefusal isBuildCount
-accepted-few kind ws n e z =
-    let count = count-holds (isKind kind) (isBuildCount ws) (allInRange kind ws) n e z in
-    leb-true (length ws) baseMost (both (leb baseWanted (length ws)) (leb (length ws) baseMost) count .1)
-
--- ---- the contract of building, if it refuses and if it builds
-
-pub build-declined : (kind : ℕ) (ws : List ℤ) (n : ℕ) (c : Chart) → n ≡ buildRefusal kind ws → (n ≡ 0 → ⊥) → c ≡ zeroChart
-    → Builds kind ws (record { chart = c; answer = Refused n })
+not-built : (kind : ℕ) (ws : List ℤ) (n : ℕ) (r : Built) → building kind ws ≡ refused n → r ≡ notBuilt n → Builds kind ws r
 unfolding chartAfter buildSays
-build-declined kind ws n c e ne z =
-    let d = declined kind ws n e ne in
-    record { chart = z ∙ ap chartAfter (sym d); says = sym d }
+not-built kind ws n r d e = rw e (record { chart = ap chartAfter (sym d); says = sym d })
 
-pub build-accepted : (kind : ℕ) (ws places : List ℤ) (n : ℕ) (r : Settled) → n ≡ buildRefusal kind ws → n ≡ 0
-    → places ≡ pad (pos 0) baseMost ws → IsSettled kind (rejection kind (take (length ws) places)) r
-    → Builds kind ws (record { chart = r .chart; answer = Done (r .rounds) (r .removed) })
-unfolding chartAfter buildSays
-build-accepted kind ws places n r e z p k =
-    let d = accepted kind ws n e z in
-    let own : take (length ws) places ≡ ws = ap (take (length ws)) p ∙ take-pad (pos 0) baseMost ws (length ws) refl in
-    let k′ : IsSettled kind (rejection kind ws) r = rw own at k in
-    let start = fresh kind (rejection kind ws .base) in
-    let state : stateOf (r .chart) ≡ start = ap stateOf (k′ .chart) ∙ state-of-chart start in
-    record {
-      chart = k′ .chart ∙ ap chartAfter (sym d);
-      says = (λ i. built (state i) (k′ .rounds i) (k′ .removed i)) ∙ sym d;
-    }
+pub build-declined : (kind : ℕ) (ws : List ℤ) (n : ℕ) (r : Built) → n ≡ buildRefusal kind ws → (n ≡ 0 → ⊥) → r ≡ notBuilt n
+    → Builds kind ws r
+build-declined kind ws n r e ne = not-built kind ws n r (declined kind ws n e ne)
 
--- the fresh chart of the words that rejection leaves
-pub settled : (kind : ℕ) (a : guide.RejectionAnswer) (r : RejectionAnswer) (c : Chart) → IsRejection a r
-    → c ≡ freshChart kind (r .left .words) (r .left .n)
-    → IsSettled kind a (record { chart = c; rounds = r .rounds; removed = r .removed })
-settled kind a r c k f =
-    record {
-      chart = f ∙ fresh-is kind (a .base) (r .left .words) (r .left .n) (k .left .words) (k .left .count);
-      rounds = k .rounds;
-      removed = k .removed;
-    }
+-- no refusal comes before rejection, and a is its answer
+module _ (kind : ℕ) (ws : List ℤ) (a : RejectionAnswer) (none : buildRefusal kind ws ≡ 0) (is : IsRejection (rejection kind ws) a) where
+  stand : a .left .n ≡ numberStanding kind ws
+  stand = left-standing kind ws a is
+
+  pub build-too-few : a .left .n < baseWanted → (r : Built) → r ≡ notBuilt 16 → Builds kind ws r
+  unfolding fifteenStand
+  build-too-few few r same =
+      let few′ = lt-leb baseWanted (numberStanding kind ws) (omega (arith, stand)) in
+      not-built kind ws 16 r (rw few′ at (accepted kind ws none)) same
+
+  pub build-accepted : baseWanted ≤ a .left .n → (c : Chart) → c ≡ freshChart kind (a .left .words) (a .left .n)
+      → Builds kind ws (record { chart = c; answer = Done (a .rounds) (a .removed) })
+  unfolding fifteenStand chartAfter buildSays
+  build-accepted enough c f =
+      let enough′ = le-leb baseWanted (numberStanding kind ws) (omega (arith, stand)) in
+      let d : building kind ws ≡ builtFrom kind (rejection kind ws) = rw enough′ at (accepted kind ws none) in
+      let start = fresh kind (rejection kind ws .base) in
+      let chart = f ∙ fresh-is kind (rejection kind ws .base) (a .left .words) (a .left .n) (is .left .words) (is .left .count) in
+      let state : stateOf c ≡ start = ap stateOf chart ∙ state-of-chart start in
+      record {
+        chart = chart ∙ ap chartAfter (sym d);
+        says = (λ i. built (state i) (is .rounds i) (is .removed i)) ∙ sym d;
+      }

@@ -2,30 +2,31 @@
 use mathlib.Core.Path.{_≡_, refl, sym, ap, _∙_}
 use mathlib.Core.Bool.{Bool, true, false}
 use mathlib.Core.List.{List, _++_}
-use Prim.Native.Nat.{ℕ, zero, suc}
-use lib.ListN.{length, take}
-use lib.IntN.{ℤ, pos}
+use Prim.Native.Nat.{ℕ, zero, suc, _<_, _≤_}
+use lib.ListN.{length}
+use lib.IntN.{ℤ}
 use native.Mathlib.Omega.{arith}
 use Rattle.guide.specs.Choice.{require}
 use Rattle.guide.specs.Sizes.{baseWanted, baseMost, seriesMost}
 use Rattle.guide.specs.Word as word
-use Rattle.guide.specs.LastWords.{lastWords}
-use Rattle.guide.specs.Rejection.{rejection}
+use Rattle.guide.specs.Standing.{numberStanding}
+use Rattle.guide.specs.Tail.{Tail, ofWords, noTail, IsTail, shortestTail}
 use Rattle.guide.specs.State.{State, limitsFor, addWord, replaceLast, setStatus}
 use Rattle.guide.specs.Verdict.{verdict, statusFor}
 use Rattle.guide.specs.Reanalysis.{passes}
 use Rattle.guide.specs.Machine.{Call, post, reanalysis, correction, renewal, Answer, judged, reanalysed, corrected, renewed, refused}
 use Rattle.guide.specs.Machine.{Next, declined, refusalFor, wordFor, ifFormed, posting, afterReanalysis, reanalysing}
-use Rattle.guide.specs.Machine.{correcting, renewing, performed, step}
+use Rattle.guide.specs.Machine.{correcting, renewedBy, renewedByTail, renewing, performed, step}
 use Rattle.guide.proofs.Booleans.{by-test}
-use Rattle.chart.specs.Pad.{pad}
+use Rattle.guide.proofs.Tail.{tail-is}
 use Rattle.chart.specs.declared.Chart.{Chart}
-use Rattle.chart.specs.declared.Settled.{Settled}
-use Rattle.chart.specs.Chart.{stateOf, chartOf, withStatus, IsSettled}
+use Rattle.chart.specs.declared.rejection.RejectionAnswer.{RejectionAnswer}
+use Rattle.chart.specs.Chart.{stateOf, chartOf, withStatus, freshChart}
+use Rattle.chart.specs.Rejection.{IsRejection}
+use Rattle.chart.specs.Tail.{rejectionOf, tailRejection}
 use Rattle.chart.specs.Soundness.{soundChart}
 use Rattle.chart.specs.Calls.{nextChart, answerTo, Gives, refusalOn, wordUnless}
-use Rattle.chart.proofs.Places.{take-pad}
-use Rattle.chart.proofs.State.{Within, Given, given, chart-of-state}
+use Rattle.chart.proofs.State.{Within, Given, given, chart-of-state, fresh-is}
 
 -- ---- the number of a call's refusal
 
@@ -111,7 +112,7 @@ module _ (c : Chart) (call : Call) (n : ℕ) (base : length (c .base) ≡ baseMo
 
 -- ---- a call that is not refused before its reading
 
--- the chart is sound, and the machine performs the call: no refusal that the state alone decides applies
+-- the chart is sound, and the machine performs the call: no refusal that comes first applies
 pub record Accepted (c : Chart) (call : Call) : Type 0 where
   pub sound : Given c
   pub is-sound : soundChart c ≡ true
@@ -209,16 +210,38 @@ correction-gives c d k h =
     let set = status-set s c 1 (c .«open_verdict») (sym (chart-of-state c (k .sound))) in
     performed-gives c correction k (correcting s) refl d corrected (h ∙ set) refl
 
-pub renewal-gives : (c : Chart) (places : List ℤ) (r : Settled) → Accepted c renewal
-    → length (lastWords baseWanted (stateOf c .base ++ stateOf c .series)) ≡ baseWanted
-    → places ≡ pad (pos 0) baseMost (lastWords baseWanted (stateOf c .base ++ stateOf c .series))
-    → IsSettled (c .kind) (rejection (c .kind) (take baseWanted places)) r
-    → Gives c renewal (r .chart) (renewed (r .rounds) (r .removed))
-unfolding renewing stateOf
-renewal-gives c places r k count p h =
-    let s = stateOf c in
-    let words = lastWords baseWanted (s .base ++ s .series) in
-    let own : take baseWanted places ≡ words = ap (take baseWanted) p ∙ take-pad (pos 0) baseMost words baseWanted (sym count) in
-    let settled : IsSettled (c .kind) (rejection (c .kind) words) r = rw own at h in
-    performed-gives c renewal k (renewing s) refl (r .chart) (renewed (r .rounds) (r .removed)) (settled .chart)
-    (λ i. renewed (settled .rounds i) (settled .removed i))
+-- ---- a renewal that is not refused before rejection. a is the answer of the tail's rejection, and the words that stand decide
+
+few-of-tail : (s : State) (a : RejectionAnswer) (t : Tail) → IsTail (s .kind) (s .base ++ s .series) t
+    → IsRejection (rejectionOf (s .kind) (s .base ++ s .series) t) a → a .left .n < baseWanted → renewedByTail s t ≡ declined s 16
+unfolding numberStanding
+few-of-tail s a (ofWords k) tail is few = absurd (omega (arith, is .left .count, tail .will-do .stand))
+few-of-tail s a noTail tail is few = refl
+
+enough-of-tail : (s : State) (a : RejectionAnswer) (t : Tail) → IsRejection (rejectionOf (s .kind) (s .base ++ s .series) t) a
+    → baseWanted ≤ a .left .n → renewedByTail s t ≡ renewedBy s (rejectionOf (s .kind) (s .base ++ s .series) t)
+enough-of-tail s a (ofWords k) is enough = refl
+enough-of-tail s a noTail is enough = absurd (omega (arith, is .left .count))
+
+module _ (c : Chart) (a : RejectionAnswer) (k : Accepted c renewal)
+    (is : IsRejection (tailRejection (c .kind) (stateOf c .base ++ stateOf c .series)) a) where
+  abbrev words : List ℤ
+  words = stateOf c .base ++ stateOf c .series
+
+  pub renewal-too-few : a .left .n < baseWanted → Gives c renewal c (refused 16)
+  unfolding renewing stateOf tailRejection
+  renewal-too-few few =
+      let s = stateOf c in
+      let declines-it = few-of-tail s a (shortestTail (c .kind) words) (tail-is (c .kind) words) is few in
+      performed-gives c renewal k (declined s 16) declines-it c (refused 16) (sym (chart-of-state c (k .sound))) refl
+
+  pub renewal-gives : baseWanted ≤ a .left .n → (d : Chart) → d ≡ freshChart (c .kind) (a .left .words) (a .left .n)
+      → Gives c renewal d (renewed (a .rounds) (a .removed))
+  unfolding renewing stateOf tailRejection
+  renewal-gives enough d f =
+      let s = stateOf c in
+      let r = tailRejection (c .kind) words in
+      let renews = enough-of-tail s a (shortestTail (c .kind) words) is enough in
+      let chart = f ∙ fresh-is (c .kind) (r .base) (a .left .words) (a .left .n) (is .left .words) (is .left .count) in
+      performed-gives c renewal k (renewedBy s r) renews d (renewed (a .rounds) (a .removed)) chart
+      (λ i. renewed (is .rounds i) (is .removed i))

@@ -2,6 +2,7 @@ pub mod Places
 mod Marks
 pub mod Rounds
 mod OtherSums
+mod Tails
 pub mod SoundCharts
 pub mod State
 pub mod ZeroChart

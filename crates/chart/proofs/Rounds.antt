@@ -10,6 +10,7 @@ use Rattle.guide.specs.Sizes.{baseMost}
 use Rattle.guide.specs.Limits.{beyondControl}
 use Rattle.guide.specs.Rejection.{afterRound, rejection}
 use Rattle.guide.specs.Carried.{lessWords, beyondGiven, removedWords, handedOn, withOwnSums}
+use Rattle.guide.specs.Standing.{numberStanding}
 use Rattle.guide.proofs.Rejection.{round-shorter, round-removes-nothing, rejection-ends, rejection-goes-on}
 use Rattle.guide.proofs.Rejection.{rejection-counts, rejection-rounds}
 use Rattle.guide.proofs.Carried.{hands-on-less, hands-on-own}
@@ -107,3 +108,18 @@ pub few-rounds : (kind : ℕ) (ws : List ℤ) (r : RejectionAnswer) → IsReject
 few-rounds kind ws r k =
     let counts = rejection-counts kind ws in
     record { rounds = omega (arith, k .rounds, rejection-rounds kind ws .1); removed = omega (arith, k .removed) }
+
+-- ---- rejection's answer
+
+-- the words stand at the front of the places that rejection is given
+pub rejected-front : (kind : ℕ) (ws places : List ℤ) (n : ℕ) (a : RejectionAnswer) → n ≡ length ws → places ≡ pad (pos 0) baseMost ws
+    → IsRejection (rejection kind (take n places)) a → IsRejection (rejection kind ws) a
+rejected-front kind ws places n a count p is =
+    let front : take n places ≡ ws = ap (take n) p ∙ take-pad (pos 0) baseMost ws n count in
+    rw front at is
+
+-- the number of words left is the number that stand
+pub left-standing : (kind : ℕ) (ws : List ℤ) (a : RejectionAnswer) → IsRejection (rejection kind ws) a
+    → a .left .n ≡ numberStanding kind ws
+unfolding numberStanding
+left-standing kind ws a is = is .left .count

@@ -35,7 +35,7 @@ pub record Gives (c : Chart) (call : Call) (next : Chart) (answer : Answer) : Ty
 
 -- ---- what parts of the calls give: `post_refusal`, `status_refusal`, `renewal_refusal`, `word_unless`
 
--- 14 first, and then the number. The number is the machine's refusal that the state alone decides, or 0
+-- 14 first, and then the number. The number is the refusal of the machine that comes first (`refusalFor`), or 0
 unfoldable pub refusalOn : Chart → ℕ → ℕ
 refusalOn c number = require (soundChart c) 14 number
 

@@ -6,13 +6,11 @@ use Prim.Native.Nat.{ℕ}
 use lib.ListN.{length, take, replicate}
 use lib.IntN.{ℤ, pos}
 use Rattle.guide.specs.Sizes.{baseMost, seriesMost}
-use Rattle.guide.specs.Rejection.{RejectionAnswer}
-use Rattle.guide.specs.State.{State, state, fresh, limitsFor}
+use Rattle.guide.specs.State.{State, state, limitsFor}
 use Rattle.guide.specs.Building.{BuildingAnswer, built, refused, building}
 use Rattle.limits.specs.declared.Limits.{Limits}
 use Rattle.limits.specs.Sums.{limitsSay, Bounded}
 use Rattle.chart.specs.declared.Chart.{Chart}
-use Rattle.chart.specs.declared.Settled.{Settled}
 use Rattle.chart.specs.declared.Built.{Built}
 use Rattle.chart.specs.declared.BuildAnswer.{BuildAnswer}
 use Rattle.chart.specs.declared.BuildAnswer.the-variants.{Done, Refused}
@@ -66,16 +64,14 @@ withStatus c status openVerdict =
 unfoldable pub zeroChart : Chart
 zeroChart = freshChart 0 (replicate baseMost (pos 0)) 0
 
--- r holds the fresh chart with the base that rejection leaves, the rounds and the number removed
-pub record IsSettled (kind : ℕ) (a : RejectionAnswer) (r : Settled) : Type 0 where
-  pub chart : r .chart ≡ chartOf (fresh kind (a .base))
-  pub rounds : r .rounds ≡ a .rounds
-  pub removed : r .removed ≡ a .removed
-
 -- l are the limits that the state's words are judged by
 pub record LimitsFor (s : State) (l : Limits) : Type 0 where
   pub same : limitsSay l ≡ limitsFor s
   pub bounded : Bounded (l .sums)
+
+-- a build that is refused with this number
+abbrev pub notBuilt : ℕ → Built
+notBuilt n = record { chart = zeroChart; answer = Refused n }
 
 -- what the cases of building's answer say, for the chart c that comes with the answer
 unfoldable pub buildSays : Chart → BuildAnswer → BuildingAnswer

@@ -1,5 +1,6 @@
 pub mod Pad
 pub mod Rejection
+pub mod Tail
 pub mod Chart
 pub mod Soundness
 pub mod Calls

@@ -1,41 +1,44 @@
 // The chart of document 01: building one, and the calls that take a chart and hand it back.
 //
-// Building refuses, in this order: 1 a kind that is not 1..3, 2 a number of words that is not 15..32, 3 a word out of range. A refused
-// build gives the chart of zeros.
+// Building refuses, in this order: 1 a kind that is not 1..3, 2 a number of words that is not 15..32, 3 a word out of range, 16 fewer
+// than 15 words stand after rejection. A refused build gives the chart of zeros.
 //
 // Every call first refuses, with 14, a chart that is not sound, whatever its lengths are. Then it refuses, in this order: post 8 (status
 // not 0), 9 (366 words in the series), 4 (a reading of another kind), 5, 6, 7; reanalyse 10 (status not 1), 4, 5, 6, 7; correct 11 (status
-// not 2); renew 8, 12 (base and series below 15). A refused call gives back the very chart that it got.
+// not 2); renew 8, 12 (base and series below 15), 16 (no tail will do). A refused call gives back the very chart that it got.
 pub mod rejection;
 pub mod soundness;
+mod tail;
 
 use judging::reanalysis::passes;
 use judging::verdict::status_for;
 use judging::verdict::verdict;
 use limits::Limits;
 use limits::limits_of;
+use rejection::RejectionAnswer;
 use rejection::reject;
+use tail::reject_tail;
 use words::Formed;
 use words::word_for;
 ghost use mathlib.Core.Path.{_≡_};
 ghost use mathlib.Core.Bool.{true};
 ghost use mathlib.Core.List.{_++_};
-ghost use Prim.Native.Nat.{_+_, _≤_, _<_};
-ghost use lib.ListN.{length, take, getD};
+ghost use Prim.Native.Nat.{_≤_, _<_};
+ghost use lib.ListN.{length};
 ghost use lib.Dec.{eqb};
 ghost use lib.IntN.{pos};
 ghost use Rattle.guide.specs.Choice.{require};
-ghost use Rattle.guide.specs.Sizes.{baseWanted, baseMost, seriesMost};
-ghost use Rattle.guide.specs.LastWords.{lastWords};
+ghost use Rattle.guide.specs.Sizes.{baseMost, seriesMost};
 ghost use Rattle.guide.specs.State.{limitsFor, addWord, replaceLast};
-ghost use Rattle.guide.specs.Rejection.{rejection};
 ghost use Rattle.guide.specs.Building.{isBuildCount, buildRefusal};
 ghost use Rattle.guide.specs.Verdict as verdicts;
 ghost use Rattle.guide.specs.Reanalysis as reanalyses;
 ghost use Rattle.guide.specs.Machine as machine;
 ghost use Rattle.words.specs.Formed.{formedSays};
 ghost use Rattle.chart.specs.Pad.{pad};
-ghost use Rattle.chart.specs.Chart.{stateOf, chartOf, withStatus, zeroChart, freshChart, LimitsFor, IsSettled, Builds};
+ghost use Rattle.chart.specs.Chart.{stateOf, chartOf, withStatus, zeroChart, freshChart, LimitsFor, notBuilt, Builds};
+ghost use Rattle.chart.specs.Rejection.{IsRejection};
+ghost use Rattle.chart.specs.Tail.{tailRejection};
 ghost use Rattle.chart.specs.Soundness.{soundChart};
 ghost use Rattle.chart.specs.Calls.{Gives, postSays, reanalysisSays, correctionSays, renewalSays, refusalOn, wordUnless};
 
@@ -103,15 +106,9 @@ pub struct Renewed {
     pub answer: RenewalAnswer,
 }
 
-// A fresh chart, the rounds of rejection and the number of words that they removed.
-struct Settled {
-    chart: Chart,
-    rounds: usize,
-    removed: usize,
-}
-
 impl Chart {
-    // The words that a base is built from: at least 15, at most 32. Rejection leaves at least 10 of them.
+    // The words that a base is built from: at least 15, at most 32. At least 15 have to stand. The base of a chart that was read has at
+    // least 10.
     pub const BASE_WANTED: usize = 15;
 
     pub const BASE_MOST: usize = 32;
@@ -129,18 +126,19 @@ impl Chart {
     {
         let number = build_refusal(kind, words);
         if number != 0 {
-            return Built {
-                chart: zero_chart(),
-                answer: BuildAnswer::Refused(number),
-            };
+            return not_built(number);
         }
-        let s = settle(kind, padded(words), words.len());
-        let chart = s.chart;
+        let r = reject(kind, padded(words), words.len());
+        let left = r.left;
+        if left.n < Chart::BASE_WANTED {
+            return not_built(16);
+        }
+        let base = left.words;
         Built {
-            chart,
+            chart: fresh_chart(kind, base, left.n),
             answer: BuildAnswer::Done {
-                rounds: s.rounds,
-                removed: s.removed,
+                rounds: r.rounds,
+                removed: r.removed,
             },
         }
     }
@@ -270,7 +268,7 @@ impl Chart {
         }
     }
 
-    // Rejection from the last 15 words of base and series gives the new base, as in building.
+    // Rejection from the shortest tail of base and series that will do gives the new base.
     pub fn renew_sound(mut self) -> Renewed
         requires { ⌜ soundChart self ≡ true ⌝ }
         ensures { λ r. ⌜ Gives self machine.renewal (r .chart) (renewalSays (r .answer)) ⌝ }
@@ -282,18 +280,26 @@ impl Chart {
                 answer: RenewalAnswer::Refused(number),
             };
         }
-        let s = settle(self.kind, self.last_words(), Chart::BASE_WANTED);
-        self = s.chart;
+        let r = self.renewal_rejection();
+        let left = r.left;
+        if left.n < Chart::BASE_WANTED {
+            return Renewed {
+                chart: self,
+                answer: RenewalAnswer::Refused(16),
+            };
+        }
+        let base = left.words;
+        self = fresh_chart(self.kind, base, left.n);
         Renewed {
             chart: self,
             answer: RenewalAnswer::Done {
-                rounds: s.rounds,
-                removed: s.removed,
+                rounds: r.rounds,
+                removed: r.removed,
             },
         }
     }
 
-    // ---- refusals of a sound chart that its state alone decides, before the call's reading: the number, or 0 if none applies
+    // ---- refusals of a sound chart that come first, before the call's reading and before rejection: the number, or 0 if none applies
 
     // The number given, if the status is not the one wanted.
     fn status_refusal(self, wanted: u16, number: u16) -> u16
@@ -398,20 +404,30 @@ impl Chart {
         self
     }
 
-    // The last 15 words of the base followed by the series, at the front of an array for a base.
-    fn last_words(self) -> [i16; Chart::BASE_MOST]
-        requires { ⌜ (soundChart self ≡ true) × (baseWanted ≤ self .«base_len» + self .«series_len») ⌝ }
-        ensures { λ r. ⌜ r ≡ pad (pos 0) baseMost (lastWords baseWanted (stateOf self .base ++ stateOf self .series)) ⌝ }
+    // What rejection leaves of the shortest tail of base and series that will do.
+    fn renewal_rejection(self) -> RejectionAnswer
+        requires { ⌜ soundChart self ≡ true ⌝ }
+        ensures { λ r. ⌜ IsRejection (tailRejection (self .kind) (stateOf self .base ++ stateOf self .series)) r ⌝ }
     {
         let base = self.base;
         let n = self.base_len;
         let series = self.series;
         let m = self.series_len;
-        last_of_both(&base[..n], &series[..m])
+        reject_tail(self.kind, &base[..n], &series[..m])
     }
 }
 
-// The number of building's refusal, or 0 if none applies.
+// A refused build.
+fn not_built(number: u16) -> Built
+    ensures { λ r. ⌜ r ≡ notBuilt number ⌝ }
+{
+    Built {
+        chart: zero_chart(),
+        answer: BuildAnswer::Refused(number),
+    }
+}
+
+// The number of a refusal that kind and words decide before rejection, or 0 if none applies.
 fn build_refusal(kind: u16, words: &[i16]) -> u16
     ensures { λ r. ⌜ r ≡ buildRefusal kind (now (words .entry)) ⌝ }
 {
@@ -449,34 +465,6 @@ fn padded(words: &[i16]) -> [i16; Chart::BASE_MOST]
     base
 }
 
-// The last 15 words of the two slices, one after the other.
-fn last_of_both(base: &[i16], series: &[i16]) -> [i16; Chart::BASE_MOST]
-    requires { ⌜ baseWanted ≤ length (now base) + length (now series) ⌝ }
-    ensures { λ r. ⌜ r ≡ pad (pos 0) baseMost (lastWords baseWanted (now (base .entry) ++ now (series .entry))) ⌝ }
-{
-    let first = base.len() + series.len() - Chart::BASE_WANTED;
-    let mut words = [0i16; Chart::BASE_MOST];
-    let mut i: usize = 0;
-    while i < Chart::BASE_WANTED {
-        words[i] = word_at(base, series, first + i);
-        i += 1;
-    }
-    words
-}
-
-// The word at place i of the two slices, one after the other.
-fn word_at(base: &[i16], series: &[i16], i: usize) -> i16
-    requires { ⌜ i < length (now base) + length (now series) ⌝ }
-    ensures { λ r. ⌜ r ≡ getD (now (base .entry) ++ now (series .entry)) i (pos 0) ⌝ }
-{
-    let n = base.len();
-    if i < n {
-        return base[i];
-    }
-    let j = i - n;
-    series[j]
-}
-
 // The word of a reading for a chart, or a refusal. A number that is not 0 is the refusal. If it is 0, the reading decides: 4, 5, 6, 7.
 fn word_unless(number: u16, chart_kind: u16, kind: u16, a: i64, b: i64, c: i64) -> Formed
     ensures { λ r. ⌜ formedSays r ≡ wordUnless number «chart_kind» kind a b c ⌝ }
@@ -485,21 +473,6 @@ fn word_unless(number: u16, chart_kind: u16, kind: u16, a: i64, b: i64, c: i64) 
         return Formed::Refused(number);
     }
     word_for(chart_kind, kind, a, b, c)
-}
-
-// The fresh chart with the base that rejection leaves of the first n words.
-fn settle(kind: u16, words: [i16; Chart::BASE_MOST], n: usize) -> Settled
-    requires { ⌜ n ≤ baseMost ⌝ }
-    ensures { λ r. ⌜ IsSettled kind (rejection kind (take n words)) r ⌝ }
-{
-    let r = reject(kind, words, n);
-    let left = r.left;
-    let base = left.words;
-    Settled {
-        chart: fresh_chart(kind, base, left.n),
-        rounds: r.rounds,
-        removed: r.removed,
-    }
 }
 
 // A chart with an empty series and status 0.

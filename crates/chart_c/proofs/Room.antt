@@ -1,9 +1,9 @@
 -- Only a post makes a chart's form longer (`form-not-longer`). So after a reanalysis, a correction or a renewal there is room for the form
 -- in the buffer that held the form before (`room-kept`), and 15 does not occur.
-use mathlib.Core.Path.{_≡_, refl, sym, ap, _∙_}
+use mathlib.Core.Path.{_≡_, refl, ap, _∙_}
 use mathlib.Core.Bool.{Bool, true, false}
 use mathlib.Core.List.{List, _∷_, [], _++_}
-use Prim.Native.Nat.{ℕ, _+_, _*_, _≤_}
+use Prim.Native.Nat.{ℕ, _+_, _≤_}
 use native.Mathlib.Omega.{arith}
 use lib.ListN.{length, take, length-append}
 use lib.Seq.{length-take-le}
@@ -11,19 +11,17 @@ use lib.Dec.{leb}
 use lib.IntN.{ℤ}
 use borrow.Author.Tests.{le-leb, leb-true}
 use Rattle.guide.specs.Choice.{require}
-use Rattle.guide.specs.Sizes.{baseWanted}
 use Rattle.guide.specs.LastWords.{lastWords, butLast}
+use Rattle.guide.specs.Tail.{ofWords, WillDo}
 use Rattle.guide.specs.State.{State, fresh, setStatus, replaceLast}
 use Rattle.guide.specs.Soundness.{sound}
-use Rattle.guide.specs.Rejection.{rejection}
 use Rattle.guide.specs.StoredForm.{storedForm, hasRoom}
 use Rattle.guide.specs.Reading.{ReadingAnswer, taken, refused, reading}
 use Rattle.guide.specs.Reanalysis.{passes}
 use Rattle.guide.specs.State.{limitsFor}
 use Rattle.guide.specs.Machine.{Call, Answer, judged, reanalysed, corrected, renewed, Next, step, posting, reanalysing, afterReanalysis}
-use Rattle.guide.specs.Machine.{correcting, renewing}
+use Rattle.guide.specs.Machine.{correcting, renewedByTail}
 use Rattle.guide.specs.Machine as machine
-use Rattle.guide.proofs.Booleans.{by-test}
 use Rattle.guide.proofs.Bytes.{AreBytes}
 use Rattle.guide.proofs.LastWords.{length-but-last, length-last-words}
 use Rattle.guide.proofs.Rejection.{rejection-counts}
@@ -56,24 +54,25 @@ module _ (s : State) (h : sound s ≡ true) where
       no-longer s _ (omega (arith, length-append (butLast (s .series)) (w ∷ []), length-but-last (s .series)))
   by-passing w false due = no-longer s _ (omega arith)
 
-  renewal-no-longer : baseWanted ≤ length (s .base) + length (s .series) → length (storedForm (renewing s .state)) ≤ length (storedForm s)
-  unfolding renewing fresh
-  renewal-no-longer enough =
+  renewal-no-longer : (k : ℕ) → WillDo (s .kind) (s .base ++ s .series) k
+      → length (storedForm (renewedByTail s (ofWords k) .state)) ≤ length (storedForm s)
+  unfolding fresh
+  renewal-no-longer k does =
       let all = s .base ++ s .series in
-      let words = lastWords baseWanted all in
+      let words = lastWords k all in
       let total = length-append (s .base) (s .series) in
-      let few = length-last-words baseWanted all (omega arith) in
-      no-longer s _ (omega (arith, rejection-counts (s .kind) words))
+      let few = length-last-words k all (does .within) in
+      no-longer s _ (omega (arith, rejection-counts (s .kind) words, does .within))
 
   pub form-not-longer : (call : Call) → NotLonger (step s call)
-  unfolding posting reanalysing correcting setStatus renewing
+  unfolding posting reanalysing correcting setStatus
   form-not-longer call =
       step-ind s NotLonger
       (λ n _ e. omega arith)
       (λ w free room r e. let z : _≡_ {A = ℕ} 0 1 = cc in absurd (omega arith))
       (λ w due r e. by-passing w (passes (limitsFor s) (s .openVerdict) (s .series) w) due)
       (λ due e. no-longer s _ (omega arith))
-      (λ free enough e. renewal-no-longer enough)
+      (λ k free is e. renewal-no-longer k (is .will-do))
       call
 
 -- a form that is read from the front of a buffer is no longer than the buffer

@@ -25,7 +25,7 @@ pub record FormsWord (o : Outcome ℤ) (word word' : ℤ) (number : ℕ) : Type 
   pub answered : number ≡ numberOf o
   pub of-word : word' ≡ lentAfter (λ (w : ℤ). w) word o
 
--- ---- building: 1, 2, 3, and then 15
+-- ---- building: 1, 2, 3, 16, and then 15
 
 -- "Building answers the chart, the rounds and the number removed."
 pub record Built : Type 0 where

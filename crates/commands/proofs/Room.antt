@@ -22,7 +22,7 @@ use Rattle.guide.specs.Word.{wordAlone, fromReading}
 use Rattle.guide.specs.Word as word
 use Rattle.guide.specs.Building.{building}
 use Rattle.guide.specs.State.{State, limitsFor}
-use Rattle.guide.specs.Machine.{Call, posting, reanalysing, correcting, renewing, step}
+use Rattle.guide.specs.Machine.{Call, posting, reanalysing, correcting, step}
 use Rattle.guide.specs.Machine as machine
 use Rattle.guide.specs.StoredForm.{storedForm}
 use Rattle.guide.specs.Reading.{reading, isForm, heldIn}
@@ -62,22 +62,22 @@ formed-short : (kind : ℕ) (a b c : ℤ) → ShortFormed (wordAlone kind a b c)
 unfolding wordAlone
 formed-short kind a b c =
     require-ind ShortFormed (isKind kind) (word.refused 1) (fromReading kind a b c)
-    (λ _. reading-ind kind a b c ShortFormed (word-short kind) (λ n h. omega arith))
+    (λ _. reading-ind kind a b c ShortFormed (word-short kind) (λ n h. omega (arith, h .small)))
     (λ _. lit< tt)
 
 building-short : (kind : ℕ) (words : List ℤ) → ShortBuilding (building kind words)
 building-short kind words =
-    building-ind kind words ShortBuilding (λ n h. omega arith) (λ s rounds removed h k. (omega arith, omega arith))
+    building-ind kind words ShortBuilding (λ n _ h. omega arith) (λ s rounds removed h k. (omega arith, omega arith))
 
 step-short : (s : State) (call : Call) → ShortAnswer (step s call .answer)
-unfolding posting reanalysing correcting renewing
+unfolding posting reanalysing correcting
 step-short s =
     step-ind s (λ next. ShortAnswer (next .answer))
-    (λ n h. omega arith)
+    (λ n h. omega (arith, h .small))
     (λ w free room r. (word-short (s .kind) w r, omega (arith, verdict-at-most-four (limitsFor s) (s .series ++ (w ∷ [])))))
     (λ w due r. word-short (s .kind) w r)
     (λ due. tt)
-    (λ free enough. let small = renewing-small s enough _ _ refl in (omega (arith, small .0), omega (arith, small .1)))
+    (λ k free is. let small = renewing-small s k (is .will-do) _ _ refl in (omega (arith, small .0), omega (arith, small .1)))
 
 answer-short : (c : Chart) (call : Call) → ShortAnswer (answerTo c call)
 unfolding answerTo

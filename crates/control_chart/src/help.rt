@@ -9,8 +9,10 @@ use texts::put_version;
 // Room for any text of `texts`, and for a number.
 const ROOM: usize = 64;
 
-// The last refusal that the program can answer: it lends enough room for every stored form, so 15 never occurs.
+// The program answers the refusals 1 to 14, and 16. It lends enough room for every stored form, so 15 never occurs.
 const LAST_REFUSAL: u32 = 14;
+
+const TOO_FEW_STAND: u32 = 16;
 
 const LAST_VERDICT: u32 = 4;
 
@@ -80,7 +82,9 @@ fn say_commands() {
     say(b"post K A B C        word W verdict V               a new word, judged\n");
     say(b"reanalyse K A B C   word W passed | word W failed  in place of the last word\n");
     say(b"correct             corrected                      the method was put right\n");
-    say(b"renew               renewed rounds R removed M     a new base from the last 15 words\n");
+    say(
+        b"renew               renewed rounds R removed M     a new base from the last 15 to 32 words\n",
+    );
     say(
         b"lines               lines MEAN LOWER-WARNING UPPER-WARNING LOWER-CONTROL UPPER-CONTROL\n",
     );
@@ -137,6 +141,7 @@ fn say_refusals() {
         say_refusal(number);
         number += 1;
     }
+    say_refusal(TOO_FEW_STAND);
     say(b"\n");
 }
 

@@ -2,7 +2,7 @@
 use mathlib.Core.Path.{_≡_, refl}
 use mathlib.Core.List.{map}
 use lib.Ieee.{climb, size, odd}
-use Rattle.guide.specs.AllOf.{allOf}
+use Rattle.guide.specs.AllOf.{allOf, noneOf}
 use Rattle.guide.specs.Kind.{isKind, ignoresThird, wordLeast, inRange, hasLower, judgesSide}
 use Rattle.guide.specs.Word.{isReading, areReadings, numerator, divisor, nearestNatural, nearest, roundedQuotient, fromReading}
 use Rattle.guide.specs.Word.{wordAlone}
@@ -11,13 +11,21 @@ use Rattle.guide.specs.Limits.{within, aboveMean, belowMean, nearMean, b
 use Rattle.guide.specs.Limits.{beyondUpperWarning, beyondLowerWarning}
 use Rattle.guide.specs.Rejection.{without, afterRound, rejectionWithin, rejection}
 use Rattle.guide.specs.Carried.{only, lessWords, beyondGiven, removedWords, handedOn, withOwnSums, inRounds, givenToRounds}
+use Rattle.guide.specs.Standing.{numberStanding, fifteenStand}
 use Rattle.guide.specs.LastWords.{lastWords, butLast, lastWord, oneBeforeLast}
+use Rattle.guide.specs.Tail.{tailFrom, shortestTail}
 use Rattle.guide.specs.State.{fresh, limitsFor, addWord, replaceLast, setStatus}
 use Rattle.guide.specs.Building.{isBuildCount, allInRange, buildRefusal, building}
 use Rattle.guide.specs.Verdict.{eachNext, isRun, rising, falling, runAbove, runBelow, controlTest, warningTest, trendTest}
 use Rattle.guide.specs.Verdict.{sideTest, firstVerdict, verdict, statusFor}
 use Rattle.guide.specs.Reanalysis.{turnsBack, passesTrend, passesVerdict, passes}
-use Rattle.guide.specs.Machine.{postRefusal, reanalysisRefusal, wordFor, posting, afterReanalysis, reanalysing, step, answers}
+use Rattle.guide.specs.Soundness.{areCounts, wordsSound, heldWithin, limitsHold, statusFits, sound}
+use Rattle.guide.specs.Machine.{postRefusal, reanalysisRefusal, renewalRefusal, wordFor, posting, afterReanalysis, reanalysing}
+use Rattle.guide.specs.Machine.{renewing, step, answers}
+use Rattle.guide.specs.Bytes.{bytesOf, numberIn, numbersIn, numberOf, wordOf}
+use Rattle.guide.specs.StoredForm.{recordOf, headNumbers, storedForm}
+use Rattle.guide.specs.Reading.{lengthIn, recordKindIn, countIn, recordNumbers, afterRecord, isRecord, startsWith, fromBase}
+use Rattle.guide.specs.Reading.{fromSeries, isForm, heldIn, reading}
 use Rattle.guide.specs.SquareRoot.{rootWithin, squareRoot}
 use Rattle.guide.specs.Double.{doubleOf, partsIn}
 use Rattle.guide.specs.Lines.{quotientDown, quotientUp, greatestDeviation, upperLine, lowerLine, meanLine}
@@ -29,9 +37,13 @@ unfolding table isKind ignoresThird wordLeast inRange hasLower judgesSide isRead
     roundedQuotient fromReading wordAlone sumOf sumOfSquares sumsOf vOf scaledDeviation exceeds within aboveMean belowMean nearMean
     above below limitsOf beyondUpper beyondLower beyond beyondControl beyondWarning beyondUpperWarning beyondLowerWarning without afterRound
     rejectionWithin rejection only lessWords beyondGiven removedWords handedOn withOwnSums inRounds givenToRounds
-    lastWords butLast lastWord oneBeforeLast fresh limitsFor addWord replaceLast setStatus isBuildCount allInRange
-    buildRefusal building allOf eachNext isRun rising falling runAbove runBelow controlTest warningTest trendTest sideTest
+    numberStanding fifteenStand lastWords butLast lastWord oneBeforeLast tailFrom shortestTail
+    fresh limitsFor addWord replaceLast setStatus isBuildCount allInRange
+    buildRefusal building allOf noneOf eachNext isRun rising falling runAbove runBelow controlTest warningTest trendTest sideTest
     firstVerdict verdict statusFor
-    turnsBack passesTrend passesVerdict passes postRefusal reanalysisRefusal wordFor posting afterReanalysis reanalysing step answers
+    turnsBack passesTrend passesVerdict passes postRefusal reanalysisRefusal renewalRefusal wordFor posting afterReanalysis reanalysing
+    renewing step answers areCounts wordsSound heldWithin limitsHold statusFits sound bytesOf numberIn numbersIn numberOf wordOf
+    recordOf headNumbers storedForm lengthIn recordKindIn countIn recordNumbers afterRecord isRecord startsWith fromBase fromSeries
+    isForm heldIn reading
     size climb odd rootWithin squareRoot doubleOf partsIn quotientDown quotientUp greatestDeviation upperLine lowerLine meanLine linesOf
 figures-hold = refl

@@ -1,9 +1,9 @@
 -- Laws of the end of a list of words: an added word is the last, and the words before it do not change.
-use mathlib.Core.Path.{_≡_}
+use mathlib.Core.Path.{_≡_, ap}
 use mathlib.Core.List.{List, [], _∷_, _++_}
 use Prim.Native.Nat.{ℕ, _+_, _-_, _≤_}
 use native.Mathlib.Omega.{arith}
-use lib.ListN.{length, getD, length-append, length-drop}
+use lib.ListN.{length, drop, getD, length-append, length-drop}
 use lib.Seq.{take-append-seam, getD-append-seam, getD-drop, length-take-le}
 use lib.IntN.{ℤ, pos}
 use Rattle.guide.specs.LastWords.{lastWords, butLast, lastWord}
@@ -51,3 +51,8 @@ length-last-words k ws h = omega (arith, length-drop (length ws - k) ws)
 pub last-words-at : (k : ℕ) (ws : List ℤ) (i : ℕ) → getD (lastWords k ws) i (pos 0) ≡ getD ws (length ws - k + i) (pos 0)
 unfolding lastWords
 last-words-at k ws i = getD-drop (length ws - k) ws i (pos 0)
+
+-- as many words as there are: all of them
+pub last-words-all : (ws : List ℤ) → lastWords (length ws) ws ≡ ws
+unfolding lastWords
+last-words-all ws = let none : length ws - length ws ≡ 0 = omega arith in ap (λ (k : ℕ). drop k ws) none

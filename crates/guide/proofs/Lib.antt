@@ -16,10 +16,12 @@ pub mod Rejection
 pub mod Carried
 pub mod InOrder
 pub mod LastWords
+pub mod Tail
 pub mod Verdict
 pub mod Soundness
 pub mod Building
 pub mod Machine
+pub mod Floor
 pub mod Bytes
 pub mod Reading
 pub mod StoredForm

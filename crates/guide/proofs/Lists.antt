@@ -1,18 +1,18 @@
--- The machine's start is sound: after building (`start-of-building-sound`) and after reading (`start-of-reading-sound`).
+-- The machine's start is sound, and after any calls from it at least fifteen words stand if it is a start after building
+-- (`start-of-building`), and at least ten if it is one after reading (`start-of-reading`).
 use mathlib.Core.Path.{_≡_, refl}
-use mathlib.Core.Bool.{true}
 use mathlib.Core.List.{List}
 use Prim.Native.Nat.{ℕ}
 use native.Mathlib.Omega.{arith}
 use lib.IntN.{ℤ}
+use Rattle.guide.specs.Sizes.{baseWanted, baseLeast}
 use Rattle.guide.specs.State.{State}
-use Rattle.guide.specs.Soundness.{sound}
 use Rattle.guide.specs.Building.{BuildingAnswer, building, built}
 use Rattle.guide.specs.Building as build
 use Rattle.guide.specs.Reading.{ReadingAnswer, reading, taken}
 use Rattle.guide.specs.Reading as read
 use Rattle.guide.specs.Lists.{begun, startOfBuilding, startOfReading}
-use Rattle.guide.proofs.Soundness.{built-sound}
+use Rattle.guide.proofs.Floor.{Starts, built-starts, sound-starts}
 use Rattle.guide.proofs.Reading.{read-sound}
 
 -- a start is `begun` only if building gives `built`, or if reading gives `taken`
@@ -27,11 +27,11 @@ unfolding startOfReading
 taken-of-begun (taken t) s P e f = let same : s ≡ t = cc in rw (← same) f
 taken-of-begun (read.refused n) s P e f = let z : _≡_ {A = ℕ} 0 1 = cc in absurd (omega arith)
 
-pub start-of-building-sound : (kind : ℕ) (words : List ℤ) (s : State) → startOfBuilding (building kind words) ≡ begun s → sound s ≡ true
-start-of-building-sound kind words s e =
-    built-of-begun (building kind words) s (λ a. building kind words ≡ a → sound s ≡ true) e
-    (λ rounds removed is. built-sound kind words s rounds removed is) refl
+pub start-of-building : (kind : ℕ) (words : List ℤ) (s : State) → startOfBuilding (building kind words) ≡ begun s → Starts baseWanted s
+start-of-building kind words s e =
+    built-of-begun (building kind words) s (λ a. building kind words ≡ a → Starts baseWanted s) e
+    (λ rounds removed is. built-starts kind words s rounds removed is) refl
 
-pub start-of-reading-sound : (bytes : List ℕ) (s : State) → startOfReading (reading bytes) ≡ begun s → sound s ≡ true
-start-of-reading-sound bytes s e =
-    taken-of-begun (reading bytes) s (λ a. reading bytes ≡ a → sound s ≡ true) e (λ is. read-sound bytes s is) refl
+pub start-of-reading : (bytes : List ℕ) (s : State) → startOfReading (reading bytes) ≡ begun s → Starts baseLeast s
+start-of-reading bytes s e =
+    taken-of-begun (reading bytes) s (λ a. reading bytes ≡ a → Starts baseLeast s) e (λ is. sound-starts s (read-sound bytes s is)) refl

@@ -6,18 +6,19 @@ use mathlib.Core.Bool.{Bool, true, false, not}
 use mathlib.Core.List.{List, [], _∷_, _++_, List·Memᴰ as Among, List·Memᴰ·head as first, List·Memᴰ·tail as later}
 use Prim.Native.Nat.{ℕ, zero, suc, _+_, _<_, _≤_}
 use native.Mathlib.Omega.{arith}
-use lib.ListN.{length, length-append}
+use lib.ListN.{length}
 use lib.Dec.{leb, ltb, eqb}
 use lib.IntN.{ℤ, natAbs}
 use borrow.Author.Tests.{leb-true, ltb-true, eqb-true, eqb-false, not-true}
 use Rattle.guide.specs.Choice.{require}
-use Rattle.guide.specs.Sizes.{baseWanted, baseLeast, seriesMost}
+use Rattle.guide.specs.Sizes.{baseWanted, baseMost, baseLeast, seriesMost}
 use Rattle.guide.specs.Kind.{inRange}
 use Rattle.guide.specs.Word as word
 use Rattle.guide.specs.Limits.{Limits, beyondControl}
 use Rattle.guide.specs.AllOf.{noneOf}
 use Rattle.guide.specs.Rejection.{rejection}
 use Rattle.guide.specs.LastWords.{lastWords, butLast}
+use Rattle.guide.specs.Tail.{Tail, ofWords, noTail, WillDo, Shortest, IsTail, shortestTail}
 use Rattle.guide.specs.State.{State, limitsFor, addWord, replaceLast, setStatus}
 use Rattle.guide.specs.Building.{allInRange, built, building}
 use Rattle.guide.specs.Verdict.{verdict, statusFor}
@@ -25,18 +26,20 @@ use Rattle.guide.specs.Reanalysis.{passesVerdict, passes}
 use Rattle.guide.specs.Soundness.{heldWithin, statusFits, sound}
 use Rattle.guide.specs.Machine.{Call, post, reanalysis, correction, renewal, Answer, judged, reanalysed, corrected, renewed, refused}
 use Rattle.guide.specs.Machine.{Next, declined, postRefusal, reanalysisRefusal, correctionRefusal, renewalRefusal, wordFor, ifFormed}
-use Rattle.guide.specs.Machine.{posting, afterReanalysis, reanalysing, correcting, renewing, unlessRefused, step, after, answers}
+use Rattle.guide.specs.Machine.{posting, afterReanalysis, reanalysing, correcting, renewedByTail, renewing, unlessRefused}
+use Rattle.guide.specs.Machine.{step, after, answers}
 use Rattle.guide.proofs.Booleans.{both, by-test}
 use Rattle.guide.proofs.Choice.{choose-ind, require-ind, require-zero}
 use Rattle.guide.proofs.Rejection.{rejection-counts, rejection-rounds}
 use Rattle.guide.proofs.InOrder.{in-range-some, in-range-joined, in-range-added, none-added}
 use Rattle.guide.proofs.LastWords.{length-added, but-last-added, but-last-in-order, length-but-last, last-words-in-order}
 use Rattle.guide.proofs.LastWords.{length-last-words}
+use Rattle.guide.proofs.Tail.{tail-is}
 use Rattle.guide.proofs.Verdict.{verdict-at-most-four, no-verdict-within, status-for-none, status-for-some}
 use Rattle.guide.proofs.Soundness.{Sound, sound-facts, sound-from, not-free-facts, open-fits, free-fits, FreeOrOpen}
 use Rattle.guide.proofs.Soundness.{status-facts, held-free, held-open, within-free, within-open, fresh-sound, built-sound}
 
--- ---- what is known about the state if it alone does not refuse a call
+-- ---- what is known about the state if no refusal that comes first applies
 
 pub can-post : (s : State) → postRefusal s ≡ 0 → (s .status ≡ 0) × (length (s .series) < seriesMost)
 unfolding postRefusal
@@ -53,7 +56,7 @@ pub can-correct : (s : State) → correctionRefusal s ≡ 0 → s .status ≡ 2
 unfolding correctionRefusal
 can-correct s h = eqb-true (s .status) 2 (require-zero (eqb (s .status) 2) 10 0 h .0)
 
-pub can-renew : (s : State) → renewalRefusal s ≡ 0 → (s .status ≡ 0) × (baseWanted ≤ length (s .base) + length (s .series))
+can-renew : (s : State) → renewalRefusal s ≡ 0 → (s .status ≡ 0) × (baseWanted ≤ length (s .base) + length (s .series))
 unfolding renewalRefusal
 can-renew s h =
     let free = require-zero (eqb (s .status) 0) 7 _ h in
@@ -63,20 +66,27 @@ can-renew s h =
 
 -- ---- the cases of a step
 
--- the greatest number with which the machine refuses a call
-abbrev pub lastRefusal : ℕ
-lastRefusal = 12
+-- the numbers with which the machine refuses a call are small, and 14 is not among them
+pub record IsRefusalNumber (n : ℕ) : Type 0 where
+  pub small : n ≤ 16
+  pub not-fourteen : n ≡ 14 → ⊥
 
--- the number of one condition is at most that. So is the number of two conditions in order
-one-within : (t : Bool) (n : ℕ) → n ≤ lastRefusal → require t n 0 ≤ lastRefusal
-one-within t n h = require-ind (λ k. k ≤ lastRefusal) t n 0 (λ _. omega arith) (λ _. h)
+up-to-twelve : (n : ℕ) → n ≤ 12 → IsRefusalNumber n
+up-to-twelve n h = record { small = omega arith; not-fourteen = λ e. absurd (omega arith) }
 
-two-within : (t u : Bool) (n m : ℕ) → n ≤ lastRefusal → m ≤ lastRefusal → require t n (require u m 0) ≤ lastRefusal
-two-within t u n m h k = require-ind (λ k. k ≤ lastRefusal) t n _ (λ _. one-within u m k) (λ _. h)
+sixteen : IsRefusalNumber 16
+sixteen = record { small = omega arith; not-fourteen = λ e. absurd (omega arith) }
+
+-- the number of one condition is at most 12. So is the number of two conditions in order
+one-within : (t : Bool) (n : ℕ) → n ≤ 12 → require t n 0 ≤ 12
+one-within t n h = require-ind (λ k. k ≤ 12) t n 0 (λ _. omega arith) (λ _. h)
+
+two-within : (t u : Bool) (n m : ℕ) → n ≤ 12 → m ≤ 12 → require t n (require u m 0) ≤ 12
+two-within t u n m h k = require-ind (λ k. k ≤ 12) t n _ (λ _. one-within u m k) (λ _. h)
 
 -- a reading gives a word in the range of its kind, or a refusal
 pub reading-ind : (kind : ℕ) (a b c : ℤ) (P : word.Formed → Type 0)
-    → ((w : ℤ) → inRange kind w ≡ true → P (word.formed w)) → ((n : ℕ) → n ≤ lastRefusal → P (word.refused n))
+    → ((w : ℤ) → inRange kind w ≡ true → P (word.formed w)) → ((n : ℕ) → IsRefusalNumber n → P (word.refused n))
     → P (word.fromReading kind a b c)
 unfolding word.fromReading
 reading-ind kind a b c P forms declines =
@@ -84,37 +94,41 @@ reading-ind kind a b c P forms declines =
     (λ _. require-ind P (not (eqb (natAbs (word.divisor kind a b c)) 0)) (word.refused 6) _
     (λ _. require-ind P (inRange kind (word.roundedQuotient kind a b c)) (word.refused 7) _
     (λ r. forms (word.roundedQuotient kind a b c) r)
-    (λ _. declines 7 (omega arith)))
-    (λ _. declines 6 (omega arith)))
-    (λ _. declines 5 (omega arith))
+    (λ _. declines 7 (up-to-twelve 7 (omega arith))))
+    (λ _. declines 6 (up-to-twelve 6 (omega arith))))
+    (λ _. declines 5 (up-to-twelve 5 (omega arith)))
 
 -- for a chart, a reading gives a word in the range of the chart kind, or a refusal
 word-ind : (chartKind kind : ℕ) (a b c : ℤ) (P : word.Formed → Type 0)
-    → ((w : ℤ) → inRange chartKind w ≡ true → P (word.formed w)) → ((n : ℕ) → n ≤ lastRefusal → P (word.refused n))
+    → ((w : ℤ) → inRange chartKind w ≡ true → P (word.formed w)) → ((n : ℕ) → IsRefusalNumber n → P (word.refused n))
     → P (wordFor chartKind kind a b c)
 unfolding wordFor
 word-ind chartKind kind a b c P forms declines =
     require-ind P (eqb kind chartKind) (word.refused 4) _
     (λ same. reading-ind kind a b c P (λ w r. forms w (rw (eqb-true kind chartKind same) at r)) declines)
-    (λ _. declines 4 (omega arith))
+    (λ _. declines 4 (up-to-twelve 4 (omega arith)))
 
 -- P holds for the step, if it holds for a refused call, and for each accepted call. The premises state what is known in each case
 module _ (s : State) (P : Next → Type 0)
-    (declines : (n : ℕ) → n ≤ lastRefusal → P (declined s n))
+    (declines : (n : ℕ) → IsRefusalNumber n → P (declined s n))
     (posts : (w : ℤ) → s .status ≡ 0 → length (s .series) < seriesMost → inRange (s .kind) w ≡ true → P (posting s w))
     (reanalyses : (w : ℤ) → s .status ≡ 1 → inRange (s .kind) w ≡ true → P (reanalysing s w))
     (corrects : s .status ≡ 2 → P (correcting s))
-    (renews : s .status ≡ 0 → baseWanted ≤ length (s .base) + length (s .series) → P (renewing s)) where
-  unless-refused : (n : ℕ) (next : Next) → n ≤ lastRefusal → (n ≡ 0 → P next) → P (unlessRefused s n next)
+    (renews : (k : ℕ) → s .status ≡ 0 → Shortest (s .kind) (s .base ++ s .series) k → P (renewedByTail s (ofWords k))) where
+  unless-refused : (n : ℕ) (next : Next) → n ≤ 12 → (n ≡ 0 → P next) → P (unlessRefused s n next)
   unless-refused zero next h f = f refl
-  unless-refused (suc n) next h f = declines (suc n) h
+  unless-refused (suc n) next h f = declines (suc n) (up-to-twelve (suc n) h)
+
+  by-tail : s .status ≡ 0 → (t : Tail) → IsTail (s .kind) (s .base ++ s .series) t → P (renewedByTail s t)
+  by-tail free (ofWords k) is = renews k free is
+  by-tail free noTail is = declines 16 sixteen
 
   if-formed : (kind : ℕ) (a b c : ℤ) (next : ℤ → Next) → ((w : ℤ) → inRange (s .kind) w ≡ true → P (next w))
       → P (ifFormed s (wordFor (s .kind) kind a b c) next)
   if-formed kind a b c next f = word-ind (s .kind) kind a b c (λ formed. P (ifFormed s formed next)) f declines
 
   pub step-ind : (call : Call) → P (step s call)
-  unfolding step postRefusal reanalysisRefusal correctionRefusal renewalRefusal
+  unfolding step postRefusal reanalysisRefusal correctionRefusal renewalRefusal renewing
   step-ind (post kind a b c) =
       unless-refused (postRefusal s) (ifFormed s (wordFor (s .kind) kind a b c) (posting s))
       (two-within (eqb (s .status) 0) (ltb (length (s .series)) seriesMost) 8 9 (omega arith) (omega arith))
@@ -129,7 +143,7 @@ module _ (s : State) (P : Next → Type 0)
   step-ind renewal =
       unless-refused (renewalRefusal s) (renewing s)
       (two-within (eqb (s .status) 0) (leb baseWanted (length (s .base) + length (s .series))) 8 12 (omega arith) (omega arith))
-      (λ e. let can = can-renew s e in renews (can .0) (can .1))
+      (λ e. by-tail (can-renew s e .0) (shortestTail (s .kind) (s .base ++ s .series)) (tail-is (s .kind) (s .base ++ s .series)))
 
 -- ---- soundness is kept
 
@@ -246,17 +260,16 @@ pub correcting-sound : (s : State) → sound s ≡ true → s .status ≡ 2 → 
 unfolding correcting
 correcting-sound s h due = status-set-sound s 1 h (omega arith) (omega arith) (omega arith)
 
--- a renewal has fifteen words or more, and rejects from the last fifteen
-pub renewing-sound : (s : State) → sound s ≡ true → baseWanted ≤ length (s .base) + length (s .series)
-    → sound (renewing s .state) ≡ true
-unfolding renewing
-renewing-sound s h enough =
+-- a renewal rejects from the words of a tail, which are 15 to 32
+pub renewing-sound : (s : State) (k : ℕ) → sound s ≡ true → WillDo (s .kind) (s .base ++ s .series) k
+    → sound (renewedByTail s (ofWords k) .state) ≡ true
+renewing-sound s k h does =
     let f = sound-facts s h in
     let all = s .base ++ s .series in
-    let count = length-last-words baseWanted all (omega (arith, length-append (s .base) (s .series))) in
+    let count = length-last-words k all (does .within) in
     let in-range = in-range-joined (s .kind) (s .base) (s .series) (f .base-in-range) (f .series-in-range) in
-    fresh-sound (s .kind) (lastWords baseWanted all) (f .is-kind) (in-range-some (s .kind) (last-words-in-order baseWanted all) in-range)
-    (omega arith) (omega arith)
+    fresh-sound (s .kind) (lastWords k all) (f .is-kind) (in-range-some (s .kind) (last-words-in-order k all) in-range)
+    (omega (arith, does .least)) (omega (arith, does .most))
 
 -- every call, also a refused one
 pub step-sound : (s : State) (call : Call) → sound s ≡ true → sound (step s call .state) ≡ true
@@ -266,7 +279,7 @@ step-sound s call h =
     (λ w free room r. posting-sound s w h free room r)
     (λ w due r. reanalysing-sound s w h due r)
     (λ due. correcting-sound s h due)
-    (λ free enough. renewing-sound s h enough)
+    (λ k free is. renewing-sound s k h (is .will-do))
     call
 
 -- ---- no refusal 14
@@ -279,39 +292,38 @@ refusalNumber corrected = 0
 refusalNumber (renewed rounds removed) = 0
 refusalNumber (refused n) = n
 
--- from any state, a step never refuses with a number above 12
-pub step-refusal : (s : State) (call : Call) → refusalNumber (step s call .answer) ≤ lastRefusal
-unfolding posting reanalysing correcting renewing
+-- from any state, a step refuses with a number of the machine, or not at all
+pub step-refusal : (s : State) (call : Call) → IsRefusalNumber (refusalNumber (step s call .answer))
+unfolding posting reanalysing correcting
 step-refusal s =
-    step-ind s (λ next. refusalNumber (next .answer) ≤ lastRefusal)
-    (λ n within. within)
-    (λ w free room r. omega arith)
-    (λ w due r. omega arith)
-    (λ due. omega arith)
-    (λ free enough. omega arith)
+    step-ind s (λ next. IsRefusalNumber (refusalNumber (next .answer)))
+    (λ n one. one)
+    (λ w free room r. up-to-twelve 0 (omega arith))
+    (λ w due r. up-to-twelve 0 (omega arith))
+    (λ due. up-to-twelve 0 (omega arith))
+    (λ k free is. up-to-twelve 0 (omega arith))
 
 -- so it never refuses with 14
 pub step-not-fourteen : (s : State) (call : Call) → step s call .answer ≡ refused 14 → ⊥
-step-not-fourteen s call e = omega (arith, step-refusal s call, ap refusalNumber e)
+step-not-fourteen s call e = step-refusal s call .not-fourteen (ap refusalNumber e)
 
 -- ---- a renewal's counts
 
 -- what `renewed-small` says about an answer
 abbrev pub SmallCounts : Answer → Type 0
-SmallCounts answer = (rounds removed : ℕ) → answer ≡ renewed rounds removed → (rounds ≤ suc baseWanted) × (removed ≤ baseWanted)
+SmallCounts answer = (rounds removed : ℕ) → answer ≡ renewed rounds removed → (rounds ≤ suc baseMost) × (removed ≤ baseMost)
 
-pub renewing-small : (s : State) → baseWanted ≤ length (s .base) + length (s .series) → SmallCounts (renewing s .answer)
-unfolding renewing
-renewing-small s enough rounds removed e =
-    let words = lastWords baseWanted (s .base ++ s .series) in
-    let count = length-last-words baseWanted (s .base ++ s .series) (omega (arith, length-append (s .base) (s .series))) in
+pub renewing-small : (s : State) (k : ℕ) → WillDo (s .kind) (s .base ++ s .series) k → SmallCounts (renewedByTail s (ofWords k) .answer)
+renewing-small s k does rounds removed e =
+    let words = lastWords k (s .base ++ s .series) in
+    let count = length-last-words k (s .base ++ s .series) (does .within) in
     let same-rounds : rejection (s .kind) words .rounds ≡ rounds = cc in
     let same-removed : rejection (s .kind) words .removed ≡ removed = cc in
-    omega (arith, rejection-counts (s .kind) words, rejection-rounds (s .kind) words)
+    omega (arith, rejection-counts (s .kind) words, rejection-rounds (s .kind) words, does .most)
 
--- from any state, the rejection of a renewal takes at most sixteen rounds and removes at most fifteen words
+-- from any state, the rejection of a renewal takes at most 33 rounds and removes at most 32 words
 pub renewed-small : (s : State) (call : Call) (rounds removed : ℕ) → step s call .answer ≡ renewed rounds removed
-    → (rounds ≤ suc baseWanted) × (removed ≤ baseWanted)
+    → (rounds ≤ suc baseMost) × (removed ≤ baseMost)
 unfolding posting reanalysing correcting
 renewed-small s =
     step-ind s (λ next. SmallCounts (next .answer))
@@ -319,7 +331,7 @@ renewed-small s =
     (λ w free room r rounds removed e. let z : _≡_ {A = ℕ} 0 1 = cc in absurd (omega arith))
     (λ w due r rounds removed e. let z : _≡_ {A = ℕ} 0 1 = cc in absurd (omega arith))
     (λ due rounds removed e. let z : _≡_ {A = ℕ} 0 1 = cc in absurd (omega arith))
-    (λ free enough. renewing-small s enough)
+    (λ k free is. renewing-small s k (is .will-do))
 
 -- ---- runs. The state after the first calls of a list is itself a state after a list. So what holds after any list holds for every state
 -- of a run

@@ -17,7 +17,7 @@ use Rattle.guide.specs.Limits.{limitsOf, controlMultiple, beyondControl}
 use Rattle.guide.specs.Rejection.{without, afterRound, RejectionAnswer, lastRound, oneMoreRound, rejectionWithin, rejection}
 use Rattle.guide.specs.Rejection.{InOrder, none, kept, removed}
 use Rattle.guide.proofs.Booleans.{by-test}
-use Rattle.guide.proofs.Without.{without-shorter, without-keeps-order, RemovesNothing, without-removes-nothing}
+use Rattle.guide.proofs.Without.{without-shorter, without-keeps-order, RemovesNothing, without-removes-nothing, without-none}
 use Rattle.guide.proofs.Limits.{beyond-exceeds, few-beyond}
 
 -- ---- the old order
@@ -82,6 +82,11 @@ enough (suc i) (suc j) kind ws h k =
 pub rejection-ends : (kind : ℕ) (ws : List ℤ) → length (afterRound kind ws) ≡ length ws → rejection kind ws ≡ lastRound ws
 unfolding rejection rejectionWithin
 rejection-ends kind ws e = rw (eq-eqb (length (afterRound kind ws)) (length ws) e)
+
+-- words of which none is beyond their own control limits are all left
+pub rejection-leaves-all : (kind : ℕ) (ws : List ℤ) → noneOf (beyondControl (limitsOf kind ws)) ws ≡ true → rejection kind ws ≡ lastRound ws
+unfolding afterRound
+rejection-leaves-all kind ws within = rejection-ends kind ws (ap length (without-none (beyondControl (limitsOf kind ws)) ws within))
 
 pub rejection-goes-on : (kind : ℕ) (ws : List ℤ) → length (afterRound kind ws) < length ws
     → rejection kind ws ≡ oneMoreRound (length ws - length (afterRound kind ws)) (rejection kind (afterRound kind ws))

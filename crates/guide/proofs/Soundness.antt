@@ -1,8 +1,9 @@
 -- Laws of soundness: its facts by name, in both directions (`sound-facts`, `sound-from`); status and open verdict of a sound state
 -- (`status-facts`). A state that is open under 3, though 4 applies, is not sound (`sided-trend-unsound`). A fresh chart of the words that
--- rejection leaves is sound (`fresh-sound`), and so is the chart that building gives (`built-sound`).
-use mathlib.Core.Path.{_≡_, refl, sym, _∙_}
-use mathlib.Core.Bool.{true, false}
+-- rejection leaves is sound (`fresh-sound`), and so is the chart that building gives (`built-sound`), in which fifteen words or more stand
+-- (`built-fifteen`).
+use mathlib.Core.Path.{_≡_, refl, sym, ap, _∙_}
+use mathlib.Core.Bool.{Bool, true, false}
 use mathlib.Core.List.{List, []}
 use Prim.Native.Nat.{ℕ, zero, suc, _≤_}
 use native.Mathlib.Omega.{arith}
@@ -10,14 +11,16 @@ use lib.ListN.{length}
 use lib.Dec.{leb, eqb}
 use lib.IntN.{ℤ}
 use borrow.Author.Tests.{leb-true, le-leb, eqb-true, eqb-false, eq-eqb, ne-eqb}
+use Rattle.guide.specs.Choice.{require}
 use Rattle.guide.specs.Sizes.{baseWanted, baseLeast, baseMost, seriesMost}
 use Rattle.guide.specs.Kind.{isKind}
 use Rattle.guide.specs.Limits.{Limits, limitsOf, beyondControl}
 use Rattle.guide.specs.AllOf.{noneOf}
 use Rattle.guide.specs.Rejection.{rejection}
+use Rattle.guide.specs.Standing.{numberStanding, fifteenStand}
 use Rattle.guide.specs.LastWords.{butLast}
 use Rattle.guide.specs.State.{State, fresh, limitsFor}
-use Rattle.guide.specs.Building.{built, isBuildCount, allInRange, buildRefusal, orRefused, building}
+use Rattle.guide.specs.Building.{built, refused, isBuildCount, allInRange, buildRefusal, orRefused, building}
 use Rattle.guide.specs.Verdict.{sideTest, verdict}
 use Rattle.guide.specs.Soundness.{areCounts, wordsSound, heldWithin, limitsHold, openFits, statusFits, sound}
 use Rattle.guide.proofs.Booleans.{both, by-test}
@@ -230,17 +233,42 @@ can-build kind words h =
       in-range = ranges .0;
     }
 
--- if `orRefused` gives a chart, the number is 0, and the chart is the one of its second argument
-not-refused : (n : ℕ) (s t : State) (rounds removed x y : ℕ) → orRefused n (built t x y) ≡ built s rounds removed → (n ≡ 0) × (t ≡ s)
-not-refused zero s t rounds removed x y e = (refl, cc)
-not-refused (suc n) s t rounds removed x y e = let z : _≡_ {A = ℕ} 0 1 = cc in absurd (omega arith)
+-- if building gives a chart, no refusal applies, and the chart is the fresh one of the words that stand
+pub record BuildFacts (kind : ℕ) (words : List ℤ) (s : State) : Type 0 where
+  pub can : CanBuild kind words
+  pub stand : baseWanted ≤ numberStanding kind words
+  pub is : fresh kind (rejection kind words .base) ≡ s
 
--- a chart that building gives is sound
-pub built-sound : (kind : ℕ) (words : List ℤ) (s : State) (rounds removed : ℕ) → building kind words ≡ built s rounds removed
-    → sound s ≡ true
-unfolding building
-built-sound kind words s rounds removed e =
+not-refused : (n : ℕ) (stand : Bool) (s t : State) (rounds removed x y : ℕ)
+    → orRefused n (require stand (refused 16) (built t x y)) ≡ built s rounds removed → (n ≡ 0) × ((stand ≡ true) × (t ≡ s))
+not-refused zero true s t rounds removed x y e = (refl, (refl, cc))
+not-refused zero false s t rounds removed x y e = let z : _≡_ {A = ℕ} 0 1 = cc in absurd (omega arith)
+not-refused (suc n) stand s t rounds removed x y e = let z : _≡_ {A = ℕ} 0 1 = cc in absurd (omega arith)
+
+pub build-facts : (kind : ℕ) (words : List ℤ) (s : State) (rounds removed : ℕ) → building kind words ≡ built s rounds removed
+    → BuildFacts kind words s
+unfolding building fifteenStand
+build-facts kind words s rounds removed e =
     let r = rejection kind words in
-    let given = not-refused (buildRefusal kind words) s (fresh kind (r .base)) rounds removed (r .rounds) (r .removed) e in
-    let can = can-build kind words (given .0) in
-    rw (given .1) at (fresh-sound kind words (can .is-kind) (can .in-range) (omega arith) (can .most))
+    let given =
+    not-refused (buildRefusal kind words) (fifteenStand kind words) s (fresh kind (r .base)) rounds removed (r .rounds) (r .removed) e in
+    record {
+      can = can-build kind words (given .0);
+      stand = leb-true baseWanted (numberStanding kind words) (given .1 .0);
+      is = given .1 .1;
+    }
+
+module _ (kind : ℕ) (words : List ℤ) (s : State) (rounds removed : ℕ) (e : building kind words ≡ built s rounds removed) where
+  -- a chart that building gives is sound
+  pub built-sound : sound s ≡ true
+  built-sound =
+      let from = build-facts kind words s rounds removed e in
+      let can = from .can in
+      rw (from .is) at (fresh-sound kind words (can .is-kind) (can .in-range) (omega (arith, can .least)) (can .most))
+
+  -- and at least fifteen words stand in it: document 02, Q-4
+  pub built-fifteen : baseWanted ≤ length (s .base)
+  unfolding numberStanding fresh
+  built-fifteen =
+      let from = build-facts kind words s rounds removed e in
+      omega (arith, from .stand, ap (λ (x : State). length (x .base)) (from .is))

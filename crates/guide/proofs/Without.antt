@@ -1,6 +1,6 @@
 -- Laws of the words without those that pass a test: an induction over them (`without-ind`), and what it gives.
 use mathlib.Core.Path.{_≡_, refl, ap}
-use mathlib.Core.Bool.{Bool, true, false}
+use mathlib.Core.Bool.{Bool, true, false, false≢true}
 use mathlib.Core.List.{List, [], _∷_}
 use Prim.Native.Nat.{_≤_}
 use native.Mathlib.Omega.{arith}
@@ -51,3 +51,12 @@ removes-nothing test =
 pub without-removes-nothing : (test : ℤ → Bool) (ws : List ℤ) → length (without test ws) ≡ length ws
     → RemovesNothing test ws (without test ws)
 without-removes-nothing test ws = removes-nothing test ws .1
+
+-- and if none passes it, all words are left
+pub without-none : (test : ℤ → Bool) (ws : List ℤ) → noneOf test ws ≡ true → without test ws ≡ ws
+unfolding noneOf allOf
+without-none test =
+    without-ind test (λ ws left. noneOf test ws ≡ true → left ≡ ws)
+    (λ e. refl)
+    (λ w ws left t h e. absurd (false≢true (rw t at e)))
+    (λ w ws left t h e. ap (λ (x : List ℤ). w ∷ x) (h (rw t at e)))

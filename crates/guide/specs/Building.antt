@@ -1,4 +1,4 @@
--- Document 01, "Base, limits, rejection": what building answers.
+-- Document 01, "Base, limits, rejection", and document 02, Q-4: what building answers.
 use mathlib.Core.Bool.{Bool, _&&_}
 use mathlib.Core.List.{List}
 use Prim.Native.Nat.{ℕ, zero, suc}
@@ -10,6 +10,7 @@ use Rattle.guide.specs.Sizes.{baseWanted, baseMost}
 use Rattle.guide.specs.AllOf.{allOf}
 use Rattle.guide.specs.Kind.{isKind, inRange}
 use Rattle.guide.specs.Rejection.{RejectionAnswer, rejection}
+use Rattle.guide.specs.Standing.{fifteenStand}
 use Rattle.guide.specs.State.{State, fresh}
 
 -- building takes this number of words: "15..32 words"
@@ -31,7 +32,8 @@ pub data BuildingAnswer : Type 0 where
 abbrev pub builtFrom : ℕ → RejectionAnswer → BuildingAnswer
 builtFrom kind r = built (fresh kind (r .base)) (r .rounds) (r .removed)
 
--- "the first number that applies", or 0 if none does: 1 "kind not 1..3", 2 "not 15..32 words", 3 "a word out of range"
+-- the refusals that kind and words decide before rejection: "the first number that applies", or 0 if none does. 1 "kind not 1..3", 2 "not
+-- 15..32 words", 3 "a word out of range"
 unfoldable pub buildRefusal : ℕ → List ℤ → ℕ
 buildRefusal kind words =
     require (isKind kind) 1
@@ -43,5 +45,9 @@ abbrev pub orRefused : ℕ → BuildingAnswer → BuildingAnswer
 orRefused zero answer = answer
 orRefused (suc n) answer = refused (suc n)
 
+-- document 02, Q-4: "Building is refused if fewer than 15 stand at the end." The number is 16, "after 3 in building"
 unfoldable pub building : ℕ → List ℤ → BuildingAnswer
-building kind words = orRefused (buildRefusal kind words) (builtFrom kind (rejection kind words))
+building kind words =
+    orRefused (buildRefusal kind words)
+    (require (fifteenStand kind words) (refused 16)
+    (builtFrom kind (rejection kind words)))

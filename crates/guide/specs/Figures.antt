@@ -9,10 +9,16 @@ use lib.IntN.{ℤ, pos, negsuc}
 use Rattle.guide.specs.Word as word
 use Rattle.guide.specs.Limits.{Sums, sumsOf, vOf, Limits, limitsOf, controlMultiple, warningMultiple, beyondUpper, beyondLower}
 use Rattle.guide.specs.Limits.{beyondControl, beyondWarning}
+use Rattle.guide.specs.Rejection.{RejectionAnswer, rejection}
 use Rattle.guide.specs.Carried.{Given, handedOn, givenToRounds}
+use Rattle.guide.specs.Standing.{numberStanding}
+use Rattle.guide.specs.LastWords.{lastWords}
+use Rattle.guide.specs.State.{state, fresh}
 use Rattle.guide.specs.Building as build
 use Rattle.guide.specs.Verdict.{trendTest, sideTest}
 use Rattle.guide.specs.Machine as machine
+use Rattle.guide.specs.StoredForm.{storedForm}
+use Rattle.guide.specs.Reading as read
 use Rattle.guide.specs.Double.{partsIn}
 use Rattle.guide.specs.ChartLines.{Lines, duplicate, twoSided, linesOf}
 
@@ -31,6 +37,10 @@ wordNumbers (word.refused n) = pos n ∷ pos n ∷ []
 abbrev pub buildNumbers : build.BuildingAnswer → List ℤ
 buildNumbers (build.built s rounds removed) = pos rounds ∷ pos removed ∷ s .base
 buildNumbers (build.refused n) = pos n ∷ []
+
+-- rounds, number removed, and the words left
+abbrev pub rejectionNumbers : RejectionAnswer → List ℤ
+rejectionNumbers r = pos (r .rounds) ∷ pos (r .removed) ∷ r .base
 
 -- n, T and V
 abbrev pub sumsNumbers : Sums → List ℤ
@@ -58,6 +68,25 @@ abbrev pub verdictsOf : build.BuildingAnswer → List machine.Call → List ℤ
 verdictsOf (build.built s rounds removed) calls = map verdictNumber (machine.answers s calls)
 verdictsOf (build.refused n) calls = []
 
+-- the same for a chart that was read
+abbrev pub verdictsAfterReading : read.ReadingAnswer → List machine.Call → List ℤ
+verdictsAfterReading (read.taken s) calls = map verdictNumber (machine.answers s calls)
+verdictsAfterReading (read.refused n) calls = []
+
+-- rounds and number removed of a renewal, and the base after it. A refusal becomes its number, and the base is not told
+abbrev pub renewalNumbers : machine.Answer → List ℤ → List ℤ
+renewalNumbers (machine.judged w v) base = []
+renewalNumbers (machine.reanalysed w passed) base = []
+renewalNumbers machine.corrected base = []
+renewalNumbers (machine.renewed rounds removed) base = pos rounds ∷ pos removed ∷ base
+renewalNumbers (machine.refused n) base = pos n ∷ []
+
+-- a renewal of the free chart with this base and this series, of kind 1
+abbrev pub renewalOf : List ℤ → List ℤ → List ℤ
+renewalOf base series =
+    let next = machine.step (state 1 base series 0 0) machine.renewal in
+    renewalNumbers (next .answer) (next .state .base)
+
 -- lines times 256, from the lowest to the highest
 abbrev pub linesNumbers : Lines → List ℤ
 linesNumbers (duplicate mean upperWarning upperControl) = partsIn mean ∷ partsIn upperWarning ∷ partsIn upperControl ∷ []
@@ -81,7 +110,19 @@ baseC = replicate 7 (pos 10000) ++ replicate 8 (pos 10001)
 abbrev pub fourteenAndOne : List ℤ
 fourteenAndOne = replicate 14 (pos 1000) ++ (pos 2000 ∷ [])
 
--- rounds that remove one word each: of the first base they remove 20000, 1728, 144, 12 and 1, of the second the words below 0
+-- document 02, Q-4: a base. With three words 0 after it, the last 15, 16, 17 and 18 words leave 14, 15, 14 and 18
+abbrev pub longerLeavesFewer : List ℤ
+longerLeavesFewer = pos 15 ∷ pos 0 ∷ pos 0 ∷ pos 0 ∷ pos 6 ∷ pos 15 ∷ pos 0 ∷ pos 0 ∷ pos 0 ∷ pos 4 ∷ replicate 5 (pos 0)
+
+-- document 02, Q-4: a base. With one word 0 after it no tail will do
+abbrev pub twoHigh : List ℤ
+twoHigh = pos 100 ∷ pos 70 ∷ replicate 13 (pos 0)
+
+-- how many of the last k words stand, for kind 1
+abbrev pub standOfLast : List ℤ → ℕ → ℤ
+standOfLast words k = pos (numberStanding 1 (lastWords k words))
+
+-- words of which rounds remove one each: of the first list 20000, 1728, 144, 12 and 1, of the second the words below 0
 abbrev pub fiveToRemove : List ℤ
 fiveToRemove = replicate 10 (pos 0) ++ (pos 1 ∷ pos 12 ∷ pos 144 ∷ pos 1728 ∷ pos 20000 ∷ [])
 
@@ -138,12 +179,15 @@ table =
     -- "one round"
     ∷ record { defined = buildNumbers (build.building 2 baseA); figure = pos 1 ∷ pos 0 ∷ baseA }
     -- "2000 removed, two rounds, one removed, base of 14, S = 0"
-    ∷ record { defined = buildNumbers (build.building 1 fourteenAndOne); figure = pos 2 ∷ pos 1 ∷ replicate 14 (pos 1000) }
+    ∷ record { defined = rejectionNumbers (rejection 1 fourteenAndOne); figure = pos 2 ∷ pos 1 ∷ replicate 14 (pos 1000) }
     ∷ record { defined = sumsNumbers (sumsOf (replicate 14 (pos 1000))); figure = pos 14 ∷ pos (14 * 1000) ∷ pos 0 ∷ [] }
     -- with S = 0 the limit is the mean. 1000 is not beyond it. 1001, the word of "Post 1001: 1", is beyond it
     ∷ record { defined = edge (beyondControl (limitsOf 1 (replicate 14 (pos 1000)))) (pos 1000) (pos 1001); figure = pos 0 ∷ pos 1 ∷ [] }
-    -- "Post 1001: 1."
-    ∷ record { defined = verdictsOf (build.building 1 fourteenAndOne) (duplicatePost 1001 ∷ []); figure = pos 1 ∷ [] }
+    -- "Post 1001: 1." Document 02, Q-4: "Stored charts with a base of 10 to 14 are still read and posted to", so the chart is read
+    ∷ record {
+      defined = verdictsAfterReading (read.reading (storedForm (fresh 1 (replicate 14 (pos 1000))))) (duplicatePost 1001 ∷ []);
+      figure = pos 1 ∷ [];
+    }
     -- "A, post 10300: 0 (first point)." "Post 10301: 1."
     ∷ record { defined = verdictsOnA (map checkPost (10300 ∷ [])); figure = pos 0 ∷ [] }
     ∷ record { defined = verdictsOnA (map checkPost (10301 ∷ [])); figure = pos 1 ∷ [] }
@@ -181,4 +225,31 @@ table =
     -- ten words left
     ∷ record { defined = givenNumbers (handedOn 1 withOtherSums ∷ []); figure = pos 29 ∷ pos 0 ∷ pos 0 ∷ [] }
     ∷ record { defined = handedOn 1 withOtherSums .words; figure = replicate 10 (pos 0) }
+    -- document 02, Q-4: "The course's fourteen words of 1000 with one of 2000 no longer build." Fifteen words of 1000 with one of 2000 do
+    ∷ record { defined = buildNumbers (build.building 1 fourteenAndOne); figure = pos 16 ∷ [] }
+    ∷ record {
+      defined = buildNumbers (build.building 1 (pos 1000 ∷ fourteenAndOne));
+      figure = pos 2 ∷ pos 1 ∷ replicate 15 (pos 1000);
+    }
+    -- "the shortest tail": a longer tail may leave fewer words than a shorter one. The renewal uses the last 16 words
+    ∷ record {
+      defined = map (standOfLast (longerLeavesFewer ++ replicate 3 (pos 0))) (15 ∷ 16 ∷ 17 ∷ 18 ∷ []);
+      figure = pos 14 ∷ pos 15 ∷ pos 14 ∷ pos 18 ∷ [];
+    }
+    ∷ record {
+      defined = renewalOf longerLeavesFewer (replicate 3 (pos 0));
+      figure = pos 2 ∷ pos 1 ∷ pos 0 ∷ pos 0 ∷ pos 6 ∷ pos 0 ∷ pos 0 ∷ pos 0 ∷ pos 4 ∷ replicate 8 (pos 0);
+    }
+    -- "Rounds and removals are those of the tail used": the last 15 words lose one in two rounds, the last 16 lose none
+    ∷ record {
+      defined = rejectionNumbers (rejection 1 (pos 1 ∷ replicate 14 (pos 0)));
+      figure = pos 2 ∷ pos 1 ∷ replicate 14 (pos 0);
+    }
+    ∷ record {
+      defined = renewalOf (pos 1 ∷ pos 1 ∷ replicate 13 (pos 0)) (pos 0 ∷ []);
+      figure = pos 1 ∷ pos 0 ∷ pos 1 ∷ pos 1 ∷ replicate 14 (pos 0);
+    }
+    -- 16 "if no tail will do". With one more post a tail will do
+    ∷ record { defined = renewalOf twoHigh (pos 0 ∷ []); figure = pos 16 ∷ [] }
+    ∷ record { defined = renewalOf twoHigh (pos 0 ∷ pos 0 ∷ []); figure = pos 1 ∷ pos 0 ∷ replicate 15 (pos 0) }
     ∷ []

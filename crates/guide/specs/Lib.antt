@@ -7,7 +7,9 @@ pub mod Word
 pub mod Limits
 pub mod Rejection
 pub mod Carried
+pub mod Standing
 pub mod LastWords
+pub mod Tail
 pub mod State
 pub mod Building
 pub mod Verdict

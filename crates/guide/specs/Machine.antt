@@ -1,6 +1,7 @@
--- Document 01, "The machine" and "Lists": the calls, their answers, one step, and a run over a list of calls from an accepted start.
--- `Lists` defines the starts after building and reading. The machine never answers 14: that refusal is about the program's chart
--- (`chart/specs/Calls`). From a sound start every state of a run is sound (`proofs/Machine`), so 14 never applies to a chart of the run.
+-- Document 01, "The machine" and "Lists", and document 02, Q-1 and Q-4: the calls, their answers, one step, and a run over a list of calls
+-- from an accepted start. `Lists` defines the starts after building and reading. The machine never answers 14: that refusal is about the
+-- program's chart (`chart/specs/Calls`). From a sound start every state of a run is sound (`proofs/Machine`), so 14 never applies to a
+-- chart of the run.
 use mathlib.Core.Bool.{Bool}
 use mathlib.Core.List.{List, [], _∷_, _++_}
 use Prim.Native.Nat.{ℕ, zero, suc, _+_}
@@ -12,6 +13,7 @@ use Rattle.guide.specs.Sizes.{baseWanted, seriesMost}
 use Rattle.guide.specs.Word as word
 use Rattle.guide.specs.Rejection.{RejectionAnswer, rejection}
 use Rattle.guide.specs.LastWords.{lastWords}
+use Rattle.guide.specs.Tail.{Tail, ofWords, noTail, shortestTail}
 use Rattle.guide.specs.State.{State, fresh, limitsFor, addWord, replaceLast, setStatus}
 use Rattle.guide.specs.Verdict.{verdict, statusFor}
 use Rattle.guide.specs.Reanalysis.{passes}
@@ -41,7 +43,7 @@ pub record Next : Type 0 where
 abbrev pub declined : State → ℕ → Next
 declined s n = record { state = s; answer = refused n }
 
--- ---- refusals that the state alone decides, before the call's reading: the first number that applies, or 0 if none does
+-- ---- refusals that come first, before the call's reading and before rejection: the first number that applies, or 0 if none does
 
 -- 8 "post or renewal, status not 0", 9 "post, 366 words in the series"
 unfoldable pub postRefusal : State → ℕ
@@ -97,13 +99,19 @@ reanalysing s w =
 unfoldable pub correcting : State → Next
 correcting s = record { state = setStatus s 1 (s .openVerdict); answer = corrected }
 
--- "Renewal takes the last 15 words of the base followed by the series, rejects as in building, empties the series and answers rounds and
--- number removed."
+-- renewal "rejects as in building, empties the series and answers rounds and number removed"
 abbrev pub renewedBy : State → RejectionAnswer → Next
 renewedBy s r = record { state = fresh (s .kind) (r .base); answer = renewed (r .rounds) (r .removed) }
 
+-- document 02, Q-4: "Rounds and removals are those of the tail used." A renewal "is refused if no tail will do". The number is 16, "after
+-- 12 in renewal"
+abbrev pub renewedByTail : State → Tail → Next
+renewedByTail s (ofWords k) = renewedBy s (rejection (s .kind) (lastWords k (s .base ++ s .series)))
+renewedByTail s noTail = declined s 16
+
+-- "Renewal uses the shortest tail of base and series, .. of which at least 15 stand after rejection". The series follows the base
 unfoldable pub renewing : State → Next
-renewing s = renewedBy s (rejection (s .kind) (lastWords baseWanted (s .base ++ s .series)))
+renewing s = renewedByTail s (shortestTail (s .kind) (s .base ++ s .series))
 
 abbrev pub performed : State → Call → Next
 performed s (post kind a b c) = ifFormed s (wordFor (s .kind) kind a b c) (posting s)

@@ -3,22 +3,22 @@
 -- chart comes from building (`claim-from-words`) or reading (`claim-from-bytes`), and lines are asked of the last chart. Then the claim
 -- holds for the whole list.
 use mathlib.Core.Path.{_≡_, refl, ap, _∙_}
-use mathlib.Core.Bool.{true}
 use mathlib.Core.List.{List, [], _∷_}
 use Prim.Native.Nat.{ℕ}
 use native.Mathlib.Omega.{arith}
 use lib.IntN.{ℤ}
 use contract.Lifetimes.{Lfts}
 use denote.Ref.{RefT, now}
+use Rattle.guide.specs.Sizes.{baseWanted, baseLeast}
 use Rattle.guide.specs.State.{State}
-use Rattle.guide.specs.Soundness.{sound}
 use Rattle.guide.specs.Building.{BuildingAnswer, building}
 use Rattle.guide.specs.Building as build
 use Rattle.guide.specs.Reading.{ReadingAnswer, reading}
 use Rattle.guide.specs.Reading as read
 use Rattle.guide.specs.Lists.{begun, startOfBuilding, startOfReading, wordsStart, bytesStart}
 use Rattle.guide.specs.Machine.{Call, post, reanalysis, correction, renewal, Answer}
-use Rattle.guide.proofs.Lists.{start-of-building-sound, start-of-reading-sound}
+use Rattle.guide.proofs.Floor.{Starts}
+use Rattle.guide.proofs.Lists.{start-of-building, start-of-reading}
 use Rattle.chart.specs.declared.Chart.{Chart}
 use Rattle.chart.specs.declared.Built.{Built}
 use Rattle.chart.specs.declared.Posted.{Posted}
@@ -94,9 +94,9 @@ chain-answers (first {calls = calls} p rest) =
 -- from the chart that stands for a sound state
 module _ (s : State) (start last : Chart) (calls : List Call) (said : List Answer) (lines : LinesAnswer)
     (chain : Chain start calls said last) (asked : lines-reads.Post tt (last, tt) lines (last, tt)) where
-  claim-from : sound s ≡ true → start ≡ chartOf s → Claim s calls last said (linesAnswerSays lines)
-  claim-from h is =
-      claim-of-run s calls last said (linesAnswerSays lines) h
+  claim-from : (floor : ℕ) → Starts floor s → start ≡ chartOf s → Claim floor s calls last said (linesAnswerSays lines)
+  claim-from floor h is =
+      claim-of-run s calls last said (linesAnswerSays lines) floor h
       (chain-chart chain ∙ ap (λ (c : Chart). chartAfterCalls c calls) is)
       (chain-answers chain ∙ ap (λ (c : Chart). answersTo c calls) is) asked
 
@@ -106,9 +106,9 @@ pub claim-from-words : (κs : Lfts 1) (kind : ℕ) (words : RefT (List ℤ)) (b 
     → (s : State) → wordsStart kind (now words) ≡ begun s
     → (calls : List Call) (said : List Answer) (last : Chart) → Chain (b .chart) calls said last
     → (lines : LinesAnswer) → lines-reads.Post tt (last, tt) lines (last, tt)
-    → Claim s calls last said (linesAnswerSays lines)
+    → Claim baseWanted s calls last said (linesAnswerSays lines)
 claim-from-words κs kind words b builds s e calls said last chain lines asked =
-    claim-from s (b .chart) last calls said lines chain asked (start-of-building-sound kind (now words) s e)
+    claim-from s (b .chart) last calls said lines chain asked baseWanted (start-of-building kind (now words) s e)
     (builds .chart ∙ chart-of-building (building kind (now words)) s e)
 
 -- from bytes that reading accepts
@@ -117,7 +117,7 @@ pub claim-from-bytes : (κs : Lfts 1) (bytes : RefT (List ℕ)) (r : ReadChart)
     → (s : State) → bytesStart (now bytes) ≡ begun s
     → (calls : List Call) (said : List Answer) (last : Chart) → Chain (r .chart) calls said last
     → (lines : LinesAnswer) → lines-reads.Post tt (last, tt) lines (last, tt)
-    → Claim s calls last said (linesAnswerSays lines)
+    → Claim baseLeast s calls last said (linesAnswerSays lines)
 claim-from-bytes κs bytes r is-read s e calls said last chain lines asked =
-    claim-from s (r .chart) last calls said lines chain asked (start-of-reading-sound (now bytes) s e)
+    claim-from s (r .chart) last calls said lines chain asked baseLeast (start-of-reading (now bytes) s e)
     (is-read .chart ∙ chart-of-reading (reading (now bytes)) s e)

@@ -3,16 +3,16 @@
 use mathlib.Core.Path.{_≡_, ap, _∙_}
 use mathlib.Core.Bool.{true}
 use mathlib.Core.List.{List}
-use Prim.Native.Nat.{_≤_}
+use Prim.Native.Nat.{ℕ, _≤_}
 use native.Mathlib.Omega.{arith}
 use lib.ListN.{length}
 use Rattle.guide.specs.Sizes.{baseLeast}
 use Rattle.guide.specs.State.{State, limitsFor}
 use Rattle.guide.specs.Limits.{limitsOf, sumsOf}
-use Rattle.guide.specs.Soundness.{sound}
-use Rattle.guide.specs.Machine.{Call, Answer, after}
+use Rattle.guide.specs.Machine.{Call, Answer, after, answers}
 use Rattle.guide.specs.ChartLines.{ChartLinesAnswer, linesGiven, linesOf, AreLineDoubles}
 use Rattle.guide.proofs.Limits.{v-natural}
+use Rattle.guide.proofs.Floor.{Starts, renewed-fifteen}
 use Rattle.guide.proofs.Lines.{line-doubles}
 use Rattle.chart.specs.declared.Chart.{Chart}
 use Rattle.chart.specs.Chart.{stateOf, chartOf}
@@ -29,29 +29,34 @@ unfolding limitsFor limitsOf sumsOf
 doubles-of-state s ten = line-doubles (limitsOf (s .kind) (s .base)) (omega arith) (v-natural (s .base))
 
 module _ (s : State) (calls : List Call) (chart : Chart) (said : List Answer) (lines : ChartLinesAnswer)
-    (h : sound s ≡ true) (same : chart ≡ chartAfterCalls (chartOf s) calls) (says : said ≡ answersTo (chartOf s) calls)
+    (floor : ℕ) (h : Starts floor s) (same : chart ≡ chartAfterCalls (chartOf s) calls) (says : said ≡ answersTo (chartOf s) calls)
     (asked : lines ≡ answerToLines chart) where
   last-chart : chart ≡ chartOf (after s calls)
-  last-chart = same ∙ sound-runs s calls h .chart
+  last-chart = same ∙ sound-runs s calls (h .is-sound) .chart
 
   last-state : stateOf chart ≡ after s calls
   last-state = ap stateOf last-chart ∙ state-of-chart (after s calls)
 
   last-sound : soundChart chart ≡ true
-  last-sound = ap soundChart same ∙ sound-runs s calls h .stays-sound
+  last-sound = ap soundChart same ∙ sound-runs s calls (h .is-sound) .stays-sound
 
   lines-answered : lines ≡ linesGiven (linesOf (limitsFor (after s calls)))
   unfolding answerToLines
   lines-answered = asked ∙ rw (last-sound, last-state)
 
-  pub claim-of-run : Claim s calls chart said lines
+  last-answers : said ≡ answers s calls
+  last-answers = says ∙ sound-runs s calls (h .is-sound) .says
+
+  pub claim-of-run : Claim floor s calls chart said lines
   claim-of-run =
-      let ten = sound-runs s calls h .ten in
+      let ten = sound-runs s calls (h .is-sound) .ten in
       record {
         same-chart = last-chart;
-        same-answers = says ∙ sound-runs s calls h .says;
+        same-answers = last-answers;
         sound = last-sound;
         ten = rw last-state ten;
+        floor-stands = rw last-state (h .stand calls);
+        fifteen-renewed = λ rounds removed m. rw last-state (renewed-fifteen s calls rounds removed (rw last-answers at m));
         answered = lines-answered;
         doubles = rw lines-answered (doubles-of-state (after s calls) ten);
       }

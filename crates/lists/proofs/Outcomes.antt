@@ -11,11 +11,11 @@ use borrow.Author.Tests.{le-leb, lt-leb}
 use Rattle.guide.specs.Choice.{require}
 use Rattle.guide.specs.Kind.{isKind}
 use Rattle.guide.specs.State.{State}
-use Rattle.guide.specs.Soundness.{sound}
 use Rattle.guide.specs.Lists.{begun, declined}
 use Rattle.guide.specs.Lists as guide
 use Rattle.guide.proofs.Booleans.{by-test}
 use Rattle.guide.proofs.Soundness.{sound-facts}
+use Rattle.guide.proofs.Floor.{Starts}
 use Rattle.chart.specs.declared.Chart.{Chart}
 use Rattle.chart.specs.Chart.{stateOf, chartOf, freshChart, zeroChart}
 use Rattle.chart.specs.Soundness.{soundChart}
@@ -84,35 +84,35 @@ module _ (p : Start) (calls room out : List ℤ) (r : Run) where
 
 -- ---- from the machine's start
 
-module _ (calls room out : List ℤ) (r : Run) where
+module _ (calls room out : List ℤ) (r : Run) (floor : ℕ) where
   -- a list that is refused because of its numbers or the buffer is refused in the same way
   past-the-tests : (listed fits : Bool) (a : Outcome State) (b : Outcome Chart)
-      → (RunGivesOn b calls room out r → RunGives a calls room out r)
+      → (RunGivesOn b calls room out r → RunGives floor a calls room out r)
       → RunGivesOn (require listed (declines notCalls) (require fits (declines noRoom) b)) calls room out r
-      → RunGives (require listed (declines notCalls) (require fits (declines noRoom) a)) calls room out r
+      → RunGives floor (require listed (declines notCalls) (require fits (declines noRoom) a)) calls room out r
   past-the-tests true true a b f h = f h
   past-the-tests true false a b f h = h
   past-the-tests false fits a b f h = h
 
   -- a list that is run on the chart that stands for a sound state
-  ran-from : (s : State) → sound s ≡ true → RanOn (chartOf s) calls room out r → Ran s (callsIn calls) room out r
+  ran-from : (s : State) → Starts floor s → RanOn (chartOf s) calls room out r → Ran floor s (callsIn calls) room out r
   ran-from s h on =
       record {
         says = on .says;
         said = answersTo (chartOf s) (callsIn calls);
-        claim = claim-of-run s (callsIn calls) (r .chart) _ (linesAnswerSays (r .lines)) h (on .chart) refl (on .lines);
+        claim = claim-of-run s (callsIn calls) (r .chart) _ (linesAnswerSays (r .lines)) floor h (on .chart) refl (on .lines);
         buffer = on .buffer;
       }
 
-  from-start : (start : guide.Start) (p : Start) → ((s : State) → start ≡ begun s → sound s ≡ true) → IsStart start p
-      → RunGivesOn (startOn (p .chart) (p .refusal)) calls room out r → RunGives (machineStart start) calls room out r
+  from-start : (start : guide.Start) (p : Start) → ((s : State) → start ≡ begun s → Starts floor s) → IsStart start p
+      → RunGivesOn (startOn (p .chart) (p .refusal)) calls room out r → RunGives floor (machineStart start) calls room out r
   unfolding machineStart
   from-start (begun s) p h is on = ran-from s (h s refl) (rw (is .refusal, is .chart) at on)
   from-start (declined zero) p h is on = absurd (omega (arith, is .some))
   from-start (declined (suc n)) p h is on = rw (is .refusal) at on
 
-  pub runs-list : (start : guide.Start) (p : Start) → ((s : State) → start ≡ begun s → sound s ≡ true) → IsStart start p
-      → RunsFrom p calls room out r → RunsList start calls room out r
+  pub runs-list : (start : guide.Start) (p : Start) → ((s : State) → start ≡ begun s → Starts floor s) → IsStart start p
+      → RunsFrom p calls room out r → RunsList floor start calls room out r
   unfolding outcomeOf
   runs-list start p h is =
       past-the-tests (areCalls calls) (hasRoom calls room) (machineStart start) (startOn (p .chart) (p .refusal)) (from-start start p h is)

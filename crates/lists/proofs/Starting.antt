@@ -2,19 +2,19 @@
 -- (`building-number`, `reading-number`), so 0 means that there is a start.
 use mathlib.Core.Path.{_≡_, refl, sym, ap, _∙_}
 use mathlib.Core.List.{List}
-use Prim.Native.Nat.{ℕ, zero, suc, _≤_}
+use Prim.Native.Nat.{ℕ, _≤_}
 use native.Mathlib.Omega.{arith}
 use lib.IntN.{ℤ}
 use Rattle.guide.specs.State.{State}
 use Rattle.guide.specs.Soundness.{sound}
-use Rattle.guide.specs.Rejection.{rejection}
-use Rattle.guide.specs.Building.{BuildingAnswer, builtFrom, buildRefusal, orRefused, building}
+use Rattle.guide.specs.Building.{building}
 use Rattle.guide.specs.Building as build
 use Rattle.guide.specs.Reading.{ReadingAnswer, taken, isForm, heldIn, reading}
 use Rattle.guide.specs.Reading as read
 use Rattle.guide.specs.Lists.{begun, declined, startOfBuilding, startOfReading}
 use Rattle.guide.specs.Lists as guide
 use Rattle.guide.proofs.Choice.{require-ind}
+use Rattle.guide.proofs.Building.{building-ind}
 use Rattle.chart.specs.declared.Chart.{Chart}
 use Rattle.chart.specs.declared.Built.{Built}
 use Rattle.chart.specs.declared.BuildAnswer.the-variants as build-answer
@@ -36,15 +36,11 @@ does-not-begin e zeros some = rw e (record { chart = zeros; refusal = refl; some
 
 -- ---- building
 
-number-some : (n k : ℕ) (answer : BuildingAnswer) → (answer ≡ build.refused k → ⊥) → orRefused n answer ≡ build.refused k → 1 ≤ k
-number-some zero k answer never e = absurd (never e)
-number-some (suc n) k answer never e = let same : suc n ≡ k = cc in omega arith
-
 building-number : (kind : ℕ) (words : List ℤ) (n : ℕ) → building kind words ≡ build.refused n → 1 ≤ n
-unfolding building
-building-number kind words n =
-    number-some (buildRefusal kind words) n (builtFrom kind (rejection kind words))
-    (λ e. let z : _≡_ {A = ℕ} 0 1 = cc in omega arith)
+building-number kind words =
+    building-ind kind words (λ answer. (n : ℕ) → answer ≡ build.refused n → 1 ≤ n)
+    (λ k some _ n e. let same : k ≡ n = cc in omega arith)
+    (λ s rounds removed _ _ n e. let z : _≡_ {A = ℕ} 0 1 = cc in absurd (omega arith))
 
 module _ (kind : ℕ) (words : List ℤ) (r : Built) (b : Builds kind words r) where
   pub built-start : (rounds removed : ℕ) → r .answer ≡ build-answer.Done rounds removed

@@ -7,7 +7,7 @@ use lib.ListN.{getD}
 use lib.Seq.{sets}
 use lib.IntN.{ℤ, pos}
 use Rattle.guide.specs.Choice.{require}
-use Rattle.guide.specs.Sizes.{baseWanted}
+use Rattle.guide.specs.Sizes.{baseWanted, baseMost, baseLeast}
 use Rattle.guide.specs.State.{State}
 use Rattle.guide.specs.Machine.{Call, Answer, renewed}
 use Rattle.guide.specs.ChartLines.{refused}
@@ -56,10 +56,10 @@ machineStart (guide.declined n) = declines (startRefused n)
 
 -- a list that is run: the claim holds for its chart, its answers and its lines, and the answers stand at the front of the buffer. `before`
 -- and `after` are the numbers of the lent buffer before the list and after it
-pub record Ran (s : State) (calls : List Call) (before after : List ℤ) (r : Run) : Type 0 where
+pub record Ran (floor : ℕ) (s : State) (calls : List Call) (before after : List ℤ) (r : Run) : Type 0 where
   pub says : runSays (r .answer) ≡ done
   pub said : List Answer
-  pub claim : Claim s calls (r .chart) said (linesAnswerSays (r .lines))
+  pub claim : Claim floor s calls (r .chart) said (linesAnswerSays (r .lines))
   pub buffer : after ≡ withAnswers said before
 
 -- nothing is run: the chart is the chart of zeros, and its lines are refused
@@ -73,13 +73,20 @@ pub record Declined (answer : RunSaid) (before after : List ℤ) (r : Run) : Typ
   pub nothing : NothingRun answer r
   pub buffer : after ≡ before
 
-abbrev pub RunGives : Outcome State → (calls before after : List ℤ) → Run → Type 0
-RunGives (runs s) calls before after r = Ran s (callsIn calls) before after r
-RunGives (declines answer) calls before after r = Declined answer before after r
+abbrev pub RunGives : (floor : ℕ) → Outcome State → (calls before after : List ℤ) → Run → Type 0
+RunGives floor (runs s) calls before after r = Ran floor s (callsIn calls) before after r
+RunGives floor (declines answer) calls before after r = Declined answer before after r
 
--- the contract of running a list
-abbrev pub RunsList : guide.Start → (calls before after : List ℤ) → Run → Type 0
-RunsList start calls before after r = RunGives (outcomeOf (machineStart start) calls before) calls before after r
+abbrev pub RunsList : (floor : ℕ) → guide.Start → (calls before after : List ℤ) → Run → Type 0
+RunsList floor start calls before after r = RunGives floor (outcomeOf (machineStart start) calls before) calls before after r
+
+-- the contracts of running a list: from a chart that is built of words, whose floor is 15, ..
+abbrev pub RunsFromWords : (kind : ℕ) (words calls before after : List ℤ) → Run → Type 0
+RunsFromWords kind words = RunsList baseWanted (guide.wordsStart kind words)
+
+-- .. and from a chart that is read from bytes, whose floor is 10
+abbrev pub RunsFromBytes : (bytes : List ℕ) (calls before after : List ℤ) → Run → Type 0
+RunsFromBytes bytes = RunsList baseLeast (guide.bytesStart bytes)
 
 -- ---- what the internal functions give
 
@@ -129,9 +136,9 @@ callAt calls at =
 unfoldable pub saidNumbers : Said → List ℤ
 saidNumbers s = s .number ∷ s .first ∷ s .second ∷ []
 
--- the counts in an answer are small: a renewal rejects from 15 words, and each of its rounds but the last removes one or more
+-- the counts in an answer are small: a renewal rejects from at most 32 words, and each of its rounds but the last removes one or more
 abbrev pub Counted : Answer → Type 0
-Counted answer = (rounds removed : ℕ) → answer ≡ renewed rounds removed → (rounds ≤ suc baseWanted) × (removed ≤ baseWanted)
+Counted answer = (rounds removed : ℕ) → answer ≡ renewed rounds removed → (rounds ≤ suc baseMost) × (removed ≤ baseMost)
 
 -- one call
 pub record IsCalled (c : Chart) (call : Call) (r : Called) : Type 0 where

@@ -26,7 +26,7 @@ ghost use mathlib.Core.Path.{_≡_};
 ghost use mathlib.Core.Bool.{true};
 ghost use Rattle.guide.specs.Lists.{wordsStart, bytesStart};
 ghost use Rattle.lists.specs.Encoding.{areCalls, hasRoom};
-ghost use Rattle.lists.specs.Runs.{RunsList, IsStart, RunsFrom, RunsCalls, NothingRun, runSays};
+ghost use Rattle.lists.specs.Runs.{RunsFromWords, RunsFromBytes, IsStart, RunsFrom, RunsCalls, NothingRun, runSays};
 
 pub enum RunAnswer {
     // The list was run, and its answers stand in the buffer.
@@ -54,7 +54,7 @@ struct Start {
 
 // Builds a chart from words, and runs a list of calls from it.
 pub fn run_from_words(kind: u16, words: &[i16], calls: &[i64], answers: &mut [i64]) -> Run
-    ensures { λ r. ⌜ RunsList (wordsStart kind (now (words .entry))) (now (calls .entry)) (now (answers .entry)) (now (answers .exit)) r ⌝ }
+    ensures { λ r. ⌜ RunsFromWords kind (now (words .entry)) (now (calls .entry)) (now (answers .entry)) (now (answers .exit)) r ⌝ }
 {
     let start = start_of_words(kind, words);
     run_from(start, calls, answers)
@@ -62,7 +62,7 @@ pub fn run_from_words(kind: u16, words: &[i16], calls: &[i64], answers: &mut [i6
 
 // Reads a chart from bytes, and runs a list of calls from it.
 pub fn run_from_bytes(bytes: &[u8], calls: &[i64], answers: &mut [i64]) -> Run
-    ensures { λ r. ⌜ RunsList (bytesStart (now (bytes .entry))) (now (calls .entry)) (now (answers .entry)) (now (answers .exit)) r ⌝ }
+    ensures { λ r. ⌜ RunsFromBytes (now (bytes .entry)) (now (calls .entry)) (now (answers .entry)) (now (answers .exit)) r ⌝ }
 {
     let start = start_of_bytes(bytes);
     run_from(start, calls, answers)

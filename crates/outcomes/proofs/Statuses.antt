@@ -16,7 +16,7 @@ use Rattle.guide.specs.Word as word
 use Rattle.guide.specs.Building.{BuildingAnswer, building}
 use Rattle.guide.specs.Building as guideBuilding
 use Rattle.guide.specs.Machine.{Call, Answer, judged, reanalysed, corrected, renewed, refused}
-use Rattle.guide.specs.Machine.{step, posting, reanalysing, correcting, renewing}
+use Rattle.guide.specs.Machine.{step, posting, reanalysing, correcting}
 use Rattle.guide.specs.Machine as machine
 use Rattle.guide.specs.State.{State, limitsFor}
 use Rattle.guide.specs.StoredForm.{storedForm}
@@ -229,14 +229,14 @@ VerdictWithin (renewed rounds removed) = Unit
 VerdictWithin (refused n) = Unit
 
 step-within : (s : State) (call : Call) → VerdictWithin (step s call .answer)
-unfolding posting reanalysing correcting renewing
+unfolding posting reanalysing correcting
 step-within s =
     step-ind s (λ next. VerdictWithin (next .answer))
     (λ n h. tt)
     (λ w free room r. verdict-at-most-four (limitsFor s) (s .series ++ (w ∷ [])))
     (λ w due r. tt)
     (λ due. tt)
-    (λ free enough. tt)
+    (λ k free is. tt)
 
 answer-within : (c : Chart) (call : Call) → VerdictWithin (answerTo c call)
 unfolding answerTo

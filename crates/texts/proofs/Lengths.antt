@@ -25,7 +25,8 @@ refusal-short n =
     (λ _. choose-ind short (eqb n 12) _ _ (λ _. lit≤ tt)
     (λ _. choose-ind short (eqb n 13) _ _ (λ _. lit≤ tt)
     (λ _. choose-ind short (eqb n 14) _ _ (λ _. lit≤ tt)
-    (λ _. choose-ind short (eqb n 15) _ _ (λ _. lit≤ tt) (λ _. lit≤ tt))))))))))))))))
+    (λ _. choose-ind short (eqb n 15) _ _ (λ _. lit≤ tt)
+    (λ _. choose-ind short (eqb n 16) _ _ (λ _. lit≤ tt) (λ _. lit≤ tt)))))))))))))))))
 
 pub verdict-short : (n : ℕ) → length (verdictMeaning n) < 64
 unfolding verdictMeaning

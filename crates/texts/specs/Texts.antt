@@ -6,7 +6,7 @@ use lib.Dec.{eqb}
 use Rattle.guide.specs.Choice.{choose}
 use Rattle.printing.specs.Ascii.{ascii}
 
--- "Numbers for what is declined". 0 is not a refusal. Every number from 16 on has the last text
+-- "Numbers for what is declined". 0 is not a refusal. Every number from 17 on has the last text
 unfoldable pub refusalMeaning : ℕ → List ℕ
 refusalMeaning n =
     choose (eqb n 0) (ascii "done")
@@ -25,7 +25,8 @@ refusalMeaning n =
     (choose (eqb n 13) (ascii "the bytes are not a stored form")
     (choose (eqb n 14) (ascii "there is no chart, or it is not sound")
     (choose (eqb n 15) (ascii "the buffer is too short")
-    (ascii "no such number"))))))))))))))))
+    (choose (eqb n 16) (ascii "fewer than 15 words stand after rejection")
+    (ascii "no such number")))))))))))))))))
 
 -- the verdicts on a post. Every number from 5 on has the last text
 unfoldable pub verdictMeaning : ℕ → List ℕ
@@ -39,4 +40,4 @@ verdictMeaning n =
 
 -- the version of the library and the program
 unfoldable pub version : List ℕ
-version = ascii "1.2.0"
+version = ascii "1.3.0"

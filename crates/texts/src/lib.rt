@@ -27,6 +27,7 @@ pub fn put_refusal_meaning(out: &mut [u8], number: u32) -> usize
         13 => put_text(out, 0, b"the bytes are not a stored form"),
         14 => put_text(out, 0, b"there is no chart, or it is not sound"),
         15 => put_text(out, 0, b"the buffer is too short"),
+        16 => put_text(out, 0, b"fewer than 15 words stand after rejection"),
         _ => put_text(out, 0, b"no such number"),
     }
 }
@@ -49,5 +50,5 @@ pub fn put_verdict_meaning(out: &mut [u8], number: u32) -> usize
 pub fn put_version(out: &mut [u8]) -> usize
     ensures { λ r. ⌜ Puts (now (out .entry)) 0 version (now (out .exit)) r ⌝ }
 {
-    put_text(out, 0, b"1.2.0")
+    put_text(out, 0, b"1.3.0")
 }

@@ -107,6 +107,12 @@ slice-aggregate-put-text-17 c = search needs
 put-text-requires-17 : tie.Need-put-text-requires-17
 put-text-requires-17 c κs = search needs
 
+slice-aggregate-put-text-18 : tie.Need-slice-aggregate-put-text-18
+slice-aggregate-put-text-18 c = search needs
+
+put-text-requires-18 : tie.Need-put-text-requires-18
+put-text-requires-18 c κs = search needs
+
 same-length : tie.Need-same-length
 same-length c = search needs
 
@@ -255,10 +261,19 @@ same-length-17 : tie.Need-same-length-17
 same-length-17 c = search needs
 
 returns-17 : tie.Need-returns-17
+unfolding refusalMeaning
 returns-17 c =
     let put = c .before .before in
+    rw (put .before .before .before .match .keys17) (put .put-text17 .ensures)
+
+same-length-18 : tie.Need-same-length-18
+same-length-18 c = search needs
+
+returns-18 : tie.Need-returns-18
+returns-18 c =
+    let put = c .before .before in
     let start = put .before .before .before .before .before in
-    rw (other-refusal (start .args .number) (put .before .before .before .match .rest)) (put .put-text17 .ensures)
+    rw (other-refusal (start .args .number) (put .before .before .before .match .rest)) (put .put-text18 .ensures)
 
 pub put-refusal-meaning-spec : {M : Type 1} → statement M
 put-refusal-meaning-spec =
@@ -298,6 +313,8 @@ put-refusal-meaning-spec =
     put-text-requires-16
     slice-aggregate-put-text-17
     put-text-requires-17
+    slice-aggregate-put-text-18
+    put-text-requires-18
     same-length
     returns
     same-length-2
@@ -331,4 +348,6 @@ put-refusal-meaning-spec =
     same-length-16
     returns-16
     same-length-17
-    returns-17)
+    returns-17
+    same-length-18
+    returns-18)

@@ -1,55 +1,82 @@
 -- `chart::Chart::build` meets its contract.
+use mathlib.Core.Path.{_≡_, refl, sym, _∙_}
 use Prim.Native.Nat.{_≤_}
 use borrow.Author.Needs.{needs}
 use denote.Ref.{now}
 use lib.ListN.{length}
 use Rattle.guide.specs.Sizes.{baseMost}
-use Rattle.chart.proofs.Building.{accepted-few, build-declined, build-accepted}
+use Rattle.guide.specs.Rejection.{rejection}
+use Rattle.guide.specs.Building.{buildRefusal}
+use Rattle.guide.proofs.Soundness.{can-build}
+use Rattle.chart.specs.Rejection.{IsRejection}
+use Rattle.chart.proofs.Rounds.{rejected-front}
+use Rattle.chart.proofs.Building.{build-declined, build-too-few, build-accepted}
 use Rattle.chart.proofs.Chart.build.Statement.{statement}
 use Rattle.chart.proofs.Chart.build.Tie as tie
 
 build-refusal-requires : tie.Need-build-refusal-requires
 build-refusal-requires c κs = search needs
 
-zero-chart-requires : tie.Need-zero-chart-requires
-zero-chart-requires c κs = search needs
+not-built-requires : tie.Need-not-built-requires
+not-built-requires c κs = search needs
 
 returns : tie.Need-returns
 returns c =
     let start = c .before .before .before in
     let number = c .before .before .build-refusal in
-    build-declined (start .args .kind) (now (start .args .words)) (number .result) (c .zero-chart .result)
-    (number .ensures) (c .before .if1 .taken)
-    (c .zero-chart .ensures)
+    build-declined (start .args .kind) (now (start .args .words)) (number .result) (c .not-built .result)
+    (number .ensures) (c .before .if1 .taken) (c .not-built .ensures)
 
--- no more words than a base has places
+-- no refusal comes before rejection, so there are no more words than a base has places
+none : (c : tie.Else1) → let a = c .before .before .args in buildRefusal (a .kind) (now (a .words)) ≡ 0
+none c = sym (c .before .build-refusal .ensures) ∙ c .if1 .left
+
 few : (c : tie.Else1) → length (now (c .before .before .args .words)) ≤ baseMost
-few c =
-    let start = c .before .before in
-    let number = c .before .build-refusal in
-    accepted-few (start .args .kind) (now (start .args .words)) (number .result) (number .ensures) (c .if1 .left)
+few c = let a = c .before .before .args in can-build (a .kind) (now (a .words)) (none c) .most
 
 padded-requires : tie.Need-padded-requires
 padded-requires c κs = few c
 
-settle-requires : tie.Need-settle-requires
-settle-requires c κs = few (c .before)
+reject-requires : tie.Need-reject-requires
+reject-requires c κs = few (c .before)
+
+not-built-requires-2 : tie.Need-not-built-requires-2
+not-built-requires-2 c κs = search needs
+
+rejected : (c : tie.After-reject) → let a = c .before .before .before .before .args in
+    IsRejection (rejection (a .kind) (now (a .words))) (c .reject .result)
+rejected c =
+    let a = c .before .before .before .before .args in
+    rejected-front (a .kind) (now (a .words)) (c .before .padded .result) (length (now (a .words))) (c .reject .result) refl
+    (c .before .padded .ensures) (c .reject .ensures)
 
 returns-2 : tie.Need-returns-2
 returns-2 c =
-    let padded = c .before .before in
-    let start = padded .before .before .before in
-    let number = padded .before .before .build-refusal in
-    build-accepted (start .args .kind) (now (start .args .words)) (padded .padded .result) (number .result) (c .before .settle .result)
-    (number .ensures) (padded .before .if1 .left) (padded .padded .ensures) (c .before .settle .ensures)
+    let r = c .before .before .before .before in
+    let a = r .before .before .before .before .args in
+    build-too-few (a .kind) (now (a .words)) (r .reject .result) (none (r .before .before)) (rejected r) (c .before .if2 .taken)
+    (c .not-built2 .result) (c .not-built2 .ensures)
+
+fresh-chart-requires : tie.Need-fresh-chart-requires
+fresh-chart-requires c κs = search needs
+
+returns-3 : tie.Need-returns-3
+returns-3 c =
+    let r = c .before .before .before .before .before in
+    let a = r .before .before .before .before .args in
+    build-accepted (a .kind) (now (a .words)) (r .reject .result) (none (r .before .before)) (rejected r) (c .before .before .if2 .left)
+    (c .fresh-chart .result) (c .fresh-chart .ensures)
 
 pub build-spec : {M : Type 1} → statement M
 build-spec =
     tie.close
     (tie.spec
     build-refusal-requires
-    zero-chart-requires
+    not-built-requires
     returns
     padded-requires
-    settle-requires
-    returns-2)
+    reject-requires
+    not-built-requires-2
+    returns-2
+    fresh-chart-requires
+    returns-3)

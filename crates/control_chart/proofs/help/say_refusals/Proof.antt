@@ -31,6 +31,9 @@ loop-less c = search needs
 loop-again : tie.Need-loop-again Inv-loop μ-loop
 loop-again c = search needs
 
+say-refusal-requires-2 : tie.Need-say-refusal-requires-2 Inv-loop μ-loop
+say-refusal-requires-2 c κs = search needs
+
 slice-aggregate-say-2 : tie.Need-slice-aggregate-say-2 Inv-loop μ-loop
 slice-aggregate-say-2 c = search needs
 
@@ -53,6 +56,7 @@ say-refusals-spec =
     add-number
     loop-less
     loop-again
+    say-refusal-requires-2
     slice-aggregate-say-2
     say-requires-2
     returns)

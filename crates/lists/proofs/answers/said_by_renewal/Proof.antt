@@ -5,7 +5,7 @@ use native.Mathlib.Omega.{arith}
 use borrow.Author.Needs.{needs}
 use mir.Syntax.{w64}
 use mir.ValLaws.{toZ-pos}
-use Rattle.guide.specs.Sizes.{baseWanted}
+use Rattle.guide.specs.Sizes.{baseMost}
 use Rattle.chart.specs.Calls.{renewalSays}
 use Rattle.lists.specs.Encoding.{numbersOf}
 use Rattle.lists.proofs.Numbers.{three-are}
@@ -17,7 +17,7 @@ enum-known-answer c = search needs
 
 -- the counts are small, by the contract
 small : (c : tie.After-known-told) → let given = c .before .answer .given in
-    (given .0 .0 ≤ suc baseWanted) × (given .0 .1 .0 ≤ baseWanted)
+    (given .0 .0 ≤ suc baseMost) × (given .0 .1 .0 ≤ baseMost)
 unfolding renewalSays
 small c =
     let given = c .before .answer .given in

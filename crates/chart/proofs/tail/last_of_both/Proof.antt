@@ -1,4 +1,4 @@
--- `chart::last_of_both` meets its contract. The loop's invariant: the first i of the last 15 words are in place.
+-- `chart::tail::last_of_both` meets its contract. The loop's invariant: the first i of the last k words are in place.
 use mathlib.Core.Path.{_≡_, refl, sym, ap, _∙_}
 use mathlib.Core.List.{List, _++_}
 use Prim.Native.Nat.{ℕ, _+_, _-_, _≤_}
@@ -9,36 +9,36 @@ use lib.ListN.{length, take, getD, length-append}
 use lib.Seq.{take-all}
 use lib.IntN.{ℤ, pos}
 use mir.Facts.{toZ-ofZ}
-use Rattle.guide.specs.Sizes.{baseWanted, baseMost}
+use Rattle.guide.specs.Sizes.{baseMost}
 use Rattle.guide.specs.LastWords.{lastWords}
 use Rattle.guide.proofs.LastWords.{length-last-words, last-words-at}
 use Rattle.chart.specs.Pad.{pad}
 use Rattle.chart.proofs.Places.{pad-next}
-use Rattle.chart.proofs.last_of_both.Statement.{statement}
-use Rattle.chart.proofs.last_of_both.Tie as tie
+use Rattle.chart.proofs.tail.last_of_both.Statement.{statement}
+use Rattle.chart.proofs.tail.last_of_both.Tie as tie
 
 abbrev Inv-loop : tie.InvT-loop
-Inv-loop base series first words₀ i₀ words i =
-    (i ≤ baseWanted) × (words ≡ pad (pos 0) baseMost (take i (lastWords baseWanted (base ++ series))))
+Inv-loop base series k first words₀ i₀ words i =
+    (i ≤ k) × (words ≡ pad (pos 0) baseMost (take i (lastWords k (base ++ series))))
 
 abbrev μ-loop : tie.MeasureT-loop
-μ-loop base series first words₀ i₀ words i = baseWanted - i
+μ-loop base series k first words₀ i₀ words i = k - i
 
 add-first : tie.Need-add-first Inv-loop μ-loop
 add-first c = search needs
 
 sub-first : tie.Need-sub-first Inv-loop μ-loop
-sub-first c = omega (arith, c .pre)
+sub-first c = omega (arith, c .pre .0)
 
 loop-holds : tie.Need-loop-holds Inv-loop μ-loop
 unfolding pad
 loop-holds c = (omega arith, refl)
 
 add-word-at : tie.Need-add-word-at Inv-loop μ-loop
-add-word-at c = omega (arith, c .before .before .pre)
+add-word-at c = omega (arith, c .before .before .pre .0)
 
 word-at-requires : tie.Need-word-at-requires Inv-loop μ-loop
-word-at-requires c κs = omega (arith, c .before .before .pre)
+word-at-requires c κs = omega (arith, c .before .before .pre .0)
 
 mul-words : tie.Need-mul-words Inv-loop μ-loop
 mul-words c = search needs
@@ -52,18 +52,18 @@ add-i c = omega arith
 loop-less : tie.Need-loop-less Inv-loop μ-loop
 loop-less c = omega arith
 
--- the words of both slices, and their last 15
+-- the words of both slices, and the last k of them
 abbrev both : tie.Start Inv-loop μ-loop → List ℤ
 both c = now (c .args .base) ++ now (c .args .series)
 
 abbrev last : tie.Start Inv-loop μ-loop → List ℤ
-last c = lastWords baseWanted (both c)
+last c = lastWords (c .args .k) (both c)
 
 all-words : (c : tie.Start Inv-loop μ-loop) → length (both c) ≡ length (now (c .args .base)) + length (now (c .args .series))
 all-words c = length-append (now (c .args .base)) (now (c .args .series))
 
-counted : (c : tie.Start Inv-loop μ-loop) → length (last c) ≡ baseWanted
-counted c = length-last-words baseWanted (both c) (omega (arith, all-words c, c .pre))
+counted : (c : tie.Start Inv-loop μ-loop) → length (last c) ≡ c .args .k
+counted c = length-last-words (c .args .k) (both c) (omega (arith, all-words c, c .pre .0))
 
 -- the call gave the next of them
 taken : (c : tie.After-word-at Inv-loop μ-loop) → let l = c .before .before in
@@ -73,8 +73,9 @@ taken c =
     let i = l .loop .i in
     let words = both (l .before) in
     let number = length (now (l .before .args .base)) + length (now (l .before .args .series)) in
-    let place : number - baseWanted + i ≡ length words - baseWanted + i = omega (arith, all-words (l .before)) in
-    c .word-at .ensures ∙ ap (λ (k : ℕ). getD words k (pos 0)) place ∙ sym (last-words-at baseWanted words i)
+    let k = l .before .args .k in
+    let place : number - k + i ≡ length words - k + i = omega (arith, all-words (l .before)) in
+    c .word-at .ensures ∙ ap (λ (j : ℕ). getD words j (pos 0)) place ∙ sym (last-words-at k words i)
 
 loop-again : tie.Need-loop-again Inv-loop μ-loop
 loop-again c =

@@ -1,12 +1,12 @@
--- `chart::word_at` meets its contract.
+-- `chart::tail::word_at` meets its contract.
 use mathlib.Core.Path.{sym, _∙_}
 use borrow.Author.Needs.{needs, sfits-of}
 use denote.Ref.{now}
 use lib.IntN.{pos}
 use mir.Facts.{toZ-ofZ}
 use Rattle.chart.proofs.Places.{joined-first, joined-second}
-use Rattle.chart.proofs.word_at.Statement.{statement}
-use Rattle.chart.proofs.word_at.Tie as tie
+use Rattle.chart.proofs.tail.word_at.Statement.{statement}
+use Rattle.chart.proofs.tail.word_at.Tie as tie
 
 mul-result : tie.Need-mul-result
 mul-result c = search needs
