@@ -2,7 +2,7 @@
 
 In docs/CLAIMS.md every text in backticks is a name, of one of these forms:
 
-    Word.nearest                        in crates/guide/specs/Word.antt or crates/guide/proofs/Word.antt
+    Word.nearest                        in crates/rules/specs/Word.antt or crates/rules/proofs/Word.antt
     chart/specs/Chart.stateOf           in crates/chart/specs/Chart.antt
     chart/specs/Chart: chartOf, ..      the same, for each name of the list; chart/must-fail: .. for edits
     words::word, Chart::build           in the crate words; of the type Chart
@@ -48,7 +48,7 @@ OTHER = {
 # The first part of a path that leads out of this tree, or that has no crate of its own.
 RUSTS_OWN = ("std", "core", "crate", "self", "super")
 
-ROOT_CRATE = "guide"
+ROOT_CRATE = "rules"
 IN_ANTT = re.compile(r"(?:crates/)?(\w+)/(specs|proofs)/([\w+/]+)((?:\.[^\s./]+)*)")
 IN_GUIDE = re.compile(r"([A-Z]\w*)\.([^\s./]+)")
 RUST_PATH = re.compile(r"[A-Za-z_]\w*(?:::[A-Za-z_]\w*)+")
@@ -90,7 +90,7 @@ class Resolver:
             return self.path(name)
         found = IN_GUIDE.fullmatch(name)
         if found and name not in self.sources:
-            return self.in_guide(*found.groups())
+            return self.in_rules(*found.groups())
         return None
 
     def rust(self, parts):
@@ -150,15 +150,15 @@ class Resolver:
             raise Unknown("a field or a case of `%s` in %s" % (names[0], scope.label))
         return scope
 
-    def guide_file(self, name):
+    def rules_file(self, name):
         """The names of a file of definitions or laws about document 01, or None."""
-        guide = self.crates.get(ROOT_CRATE)
-        found = [there[name].names for there in (guide.specs, guide.proofs) if name in there] if guide else []
+        rules = self.crates.get(ROOT_CRATE)
+        found = [there[name].names for there in (rules.specs, rules.proofs) if name in there] if rules else []
         label = "%s.antt in crates/%s/specs or proofs" % (name, ROOT_CRATE)
         return Scope(label, set().union(*found)) if found else None
 
-    def in_guide(self, file, name):
-        scope = self.guide_file(file)
+    def in_rules(self, file, name):
+        scope = self.rules_file(file)
         if scope is None:
             return self.in_type(file, self.crates.values(), [name])
         if name not in scope.names:
@@ -213,8 +213,8 @@ def check_claims(tree, resolver, faults):
     scope = before = None
     for span in document.spans:
         between = document.between(before, span) if before else ""
-        if between == ": " and resolver.guide_file(before.text):
-            scope = resolver.guide_file(before.text)
+        if between == ": " and resolver.rules_file(before.text):
+            scope = resolver.rules_file(before.text)
         elif between != ": " and between not in LIST_GOES_ON:
             scope = None
         before = span

@@ -45,7 +45,7 @@ From C:
 
 The crates:
 
-    guide --- words
+    rules --- words
 """
 
 DAY_SH = """\
@@ -94,10 +94,10 @@ CLAIMS = """\
 
 ## Demand 3: one claim over whole lists
 
-Definition: `Word.nearest`, `IsNearest`; `guide/specs/Word`: `close`, `nearest`. Law: `Word.nearest-is`.
+Definition: `Word.nearest`, `IsNearest`; `rules/specs/Word`: `close`, `nearest`. Law: `Word.nearest-is`.
 Contract: `words::word`, `all_words`, `words::Formed::Word(i16)`, `rounding::half`, `Formed::Refused`, `Limits.low`,
 `Limits::MOST`. Others: `words/specs/Formed.Says.refused`, `Word.nearest z d`; `inner`; `word W`; `show`; `crates/*/src`;
-`Word.antt`; `guide/must-fail`: `cut_off`; `words/turned`; `built
+`Word.antt`; `rules/must-fail`: `cut_off`; `words/turned`; `built
 rounds R removed M`. See [demand 3](#demand-3-one-claim-over-whole-lists).
 %s
 
@@ -111,13 +111,13 @@ MUST_FAIL = """\
 
 | Edit | The fact |
 |---|---|
-| `guide/cut_off` | `figures` |
+| `rules/cut_off` | `figures` |
 
 - `words/turned`: `words::word` answers another word.
 
 | Crate | Edits |
 |---|---|
-| `guide` | 1 |
+| `rules` | 1 |
 | `words` | 1 |
 | all | 2 |
 """
@@ -280,10 +280,10 @@ FILES = {
     "include/control_chart.h": HEADER,
     "bin/control_chart": PROGRAM,
     "bin/help": HELP,
-    "crates.txt": "# Definitions.\nguide:\nwords: guide\n",
-    "crates/guide/specs/Word.antt": WORD_SPECS,
-    "crates/guide/proofs/Word.antt": WORD_PROOFS,
-    "crates/guide/must-fail/cut_off.edit": "",
+    "crates.txt": "# Definitions.\nrules:\nwords: rules\n",
+    "crates/rules/specs/Word.antt": WORD_SPECS,
+    "crates/rules/proofs/Word.antt": WORD_PROOFS,
+    "crates/rules/must-fail/cut_off.edit": "",
     "crates/words/specs/Formed.antt": FORMED,
     "crates/words/src/lib.rt": WORDS_LIB,
     "crates/words/src/rounding.rt": "pub fn half() {}\n",
@@ -326,8 +326,8 @@ CASES = [
     case("a law", names, "docs/CLAIMS.md", "`Word.nearest-is`", "`Word.nearest-was`", "docs/CLAIMS.md:5: found `Word.nearest-was`"),
     case("a name behind a file", names, "docs/CLAIMS.md", "`close`,", "`inner`,", "docs/CLAIMS.md:5: found `inner`"),
     case("a name behind a name", names, "docs/CLAIMS.md", "`all_words`", "`half`", "docs/CLAIMS.md:6: found `half`"),
-    case("a file of definitions", names, "docs/CLAIMS.md", "`guide/specs/Word`", "`guide/specs/Ward`",
-         "docs/CLAIMS.md:5: found `guide/specs/Ward`"),
+    case("a file of definitions", names, "docs/CLAIMS.md", "`rules/specs/Word`", "`rules/specs/Ward`",
+         "docs/CLAIMS.md:5: found `rules/specs/Ward`"),
     case("a case of a type", names, "docs/CLAIMS.md", "Says.refused", "Says.refuse", "docs/CLAIMS.md:7: found `words/specs/Formed."),
     case("a function", names, "docs/CLAIMS.md", "`words::word`", "`words::words`", "docs/CLAIMS.md:6: found `words::words`"),
     case("a crate", names, "docs/CLAIMS.md", "`words::word`", "`word::word`", "docs/CLAIMS.md:6: found `word::word`"),
@@ -339,7 +339,7 @@ CASES = [
     case("a wrapped name", names, "docs/CLAIMS.md", "R removed", "M removed", "docs/CLAIMS.md:8: found `built rounds M removed M`"),
     case("a folder", names, "docs/CLAIMS.md", "`crates/*/src`", "`crates/*/scr`", "docs/CLAIMS.md:7: found `crates/*/scr`"),
     case("an edit behind its folder", names, "docs/CLAIMS.md", "`cut_off`", "`turned`", "docs/CLAIMS.md:8: found `turned`"),
-    case("an edit with its crate", names, "docs/CLAIMS.md", "`words/turned`", "`guide/turned`", "docs/CLAIMS.md:8: found `guide/tu"),
+    case("an edit with its crate", names, "docs/CLAIMS.md", "`words/turned`", "`rules/turned`", "docs/CLAIMS.md:8: found `rules/tu"),
     case("a listed name without use", names, "docs/CLAIMS.md", "`rt ci`", "`show`", "tests/documents/names.py: found `rt ci`"),
     case("a path elsewhere", names, "docs/DECISIONS.md", "words/specs/Formed`", "words/specs/Former`", "docs/DECISIONS.md:5: found"),
     case("a definition elsewhere", names, "docs/DECISIONS.md", "`Formed.Says`", "`Formed.Said`", "docs/DECISIONS.md:5: found"),
@@ -348,9 +348,9 @@ CASES = [
     case("a name in code", names, "docs/LIBRARY.md", "use words::Formed", "use words::Form", "docs/LIBRARY.md:5: found `words::Form`"),
 
     case("a quote", quotes, "docs/CLAIMS.md", "      pub even : Z", "      pub odd : Z", "docs/CLAIMS.md:%d: found a quote" % CLAIMS_QUOTE),
-    case("a quoted definition", quotes, "crates/guide/specs/Word.antt", "  pub close : Z\n", "", "docs/CLAIMS.md:%d: found a quote" % CLAIMS_QUOTE),
+    case("a quoted definition", quotes, "crates/rules/specs/Word.antt", "  pub close : Z\n", "", "docs/CLAIMS.md:%d: found a quote" % CLAIMS_QUOTE),
 
-    case("an edit without entry", edits, "docs/MUST-FAIL.md", "| `guide/cut_off` |", "| cut off |", "docs/MUST-FAIL.md: found no entry"),
+    case("an edit without entry", edits, "docs/MUST-FAIL.md", "| `rules/cut_off` |", "| cut off |", "docs/MUST-FAIL.md: found no entry"),
     case("an item for no edit", edits, "docs/MUST-FAIL.md", "- `words/turned`", "- `words/turning`", "docs/MUST-FAIL.md:7: found an en"),
     case("two entries", edits, "docs/MUST-FAIL.md", "| Crate", "- `words/turned`\n\n| Crate", "docs/MUST-FAIL.md:9: found a second"),
     case("a number of edits", edits, "docs/MUST-FAIL.md", "| `words` | 1 |", "| `words` | 2 |", "docs/MUST-FAIL.md:12: found 2 of ed"),

@@ -17,33 +17,33 @@ pub fn stored_forms(a: Chart) {
 
 // A needs 48 bytes, and 4 more with two words in the series. The last three charts are not sound.
 fn written(a: Chart, due: Chart, bad: Chart) {
-    write(a, 48);
-    write(a, 50);
-    write(a, 47);
-    write(a, 9);
-    write(due, 52);
-    write(bad, 9);
-    write(bad, 50);
+    write_into(a, &mut [170; 48]);
+    write_into(a, &mut [170; 50]);
+    write_into(a, &mut [170; 47]);
+    write_into(a, &mut [170; 9]);
+    write_into(due, &mut [170; 52]);
+    write_into(bad, &mut [170; 9]);
+    write_into(bad, &mut [170; 50]);
     let mut long = a;
     long.base_len = 33;
-    write(long, 50);
+    write_into(long, &mut [170; 50]);
 }
 
 fn returned(a: Chart, due: Chart, bad: Chart) {
-    read_back(a, 1024);
-    read_back(due, 1024);
+    read_back(a);
+    read_back(due);
     negative_returned();
     shortest_returned(a);
     longest_returned(a);
     // Writing refuses these.
-    read_back(bad, 1024);
-    read_back(a, 47);
+    read_back(bad);
+    read_from(a, &mut [170; 47]);
 }
 
 // Words below 0.
 fn negative_returned() {
     let r = Chart::build(3, &[-313; 15]);
-    read_back(r.chart, 1024);
+    read_back(r.chart);
 }
 
 // The shortest base. No build gives it.
@@ -52,7 +52,7 @@ fn shortest_returned(a: Chart) {
     short.kind = 1;
     short.base = [0; Chart::BASE_MOST];
     short.base_len = Chart::BASE_LEAST;
-    read_back(short, 1024);
+    read_back(short);
 }
 
 // The longest series.
@@ -60,15 +60,7 @@ fn longest_returned(a: Chart) {
     let mut full = a;
     full.series = [10000; Chart::SERIES_MOST];
     full.series_len = Chart::SERIES_MOST;
-    read_back(full, 1024);
-}
-
-// Writes the chart into `room` lent bytes, at most 64.
-fn write(chart: Chart, room: usize) {
-    let mut lent = [170; 64];
-    if room <= 64 {
-        write_into(chart, &mut lent[..room]);
-    }
+    read_back(full);
 }
 
 fn write_into(chart: Chart, lent: &mut [u8]) {
@@ -78,29 +70,27 @@ fn write_into(chart: Chart, lent: &mut [u8]) {
         WriteAnswer::Done(size) => say::named(b"wrote ", size as u64),
         WriteAnswer::Refused(n) => say::refusal(n),
     }
+    say::text(b":");
     each_byte(lent);
+    say::end_of_line();
 }
 
 // A blank and two hex digits for each byte.
 fn each_byte(bytes: &[u8]) {
-    say::text(b":");
     let mut i: usize = 0;
     while i < bytes.len() {
         say::text(b" ");
         io::print_hex(libc::STDOUT_FILENO, bytes[i] as u64, 2);
         i += 1;
     }
-    say::end_of_line();
 }
 
-// Writes the chart into `room` lent bytes, at most 1024, and reads what was written.
-fn read_back(chart: Chart, room: usize) {
-    let mut lent = [170; 1024];
-    if room <= 1024 {
-        read_from(chart, &mut lent[..room]);
-    }
+// Lends room for every form.
+fn read_back(chart: Chart) {
+    read_from(chart, &mut [170; 1024]);
 }
 
+// Writes the chart into the lent bytes, and reads what was written.
 fn read_from(chart: Chart, lent: &mut [u8]) {
     say::label();
     let r = store::write_and_read(chart, lent);

@@ -97,7 +97,9 @@ fn run(r: lists::Run, answers: &[i64]) {
     say::label();
     let answer = r.answer;
     answered(answer);
+    say::text(b"; answers");
     each_number(answers);
+    say::text(b"; ");
     say::numbers(r.chart);
     let lines = r.lines;
     let mut out = [0; 256];
@@ -117,12 +119,10 @@ fn answered(answer: RunAnswer) {
 
 // A blank and each number.
 fn each_number(numbers: &[i64]) {
-    say::text(b"; answers");
     let mut i: usize = 0;
     while i < numbers.len() {
         say::text(b" ");
         say::signed(numbers[i]);
         i += 1;
     }
-    say::text(b"; ");
 }

@@ -6,13 +6,14 @@ use chart::rejection::round;
 use limits::Sums;
 ghost use Prim.Native.Nat.{_≤_};
 ghost use lib.ListN.{take};
-ghost use Rattle.guide.specs.Sizes.{baseMost};
+ghost use Rattle.rules.specs.Sizes.{baseMost};
 ghost use Rattle.limits.specs.Sums.{AreSums};
 
 pub fn sums_given(a: Chart) {
     say::heading();
-    one_a_round();
-    one_a_round_below_zero();
+    one_a_round(1, [1, 12, 144, 1728, 20000]);
+    // The same words below 0. Each word that is removed makes T rise.
+    one_a_round(3, [-1, -12, -144, -1728, -20000]);
     // Two words in one round, on both sides and on one.
     let mut words = [100; Chart::BASE_MOST];
     words[31] = 20000;
@@ -24,26 +25,15 @@ pub fn sums_given(a: Chart) {
     rounds_of(2, base, a.base_len);
 }
 
-// 0 ten times, and five words. Each of the first five rounds removes the greatest word left.
-fn one_a_round() {
+// 0 ten times, and five words. Each of the first five rounds removes the word that is farthest from 0.
+fn one_a_round(kind: u16, five: [i16; 5]) {
     let mut words = [0; Chart::BASE_MOST];
-    words[10] = 1;
-    words[11] = 12;
-    words[12] = 144;
-    words[13] = 1728;
-    words[14] = 20000;
-    rounds_of(1, words, 15);
-}
-
-// The same words below 0. Each word that is removed makes T rise.
-fn one_a_round_below_zero() {
-    let mut words = [0; Chart::BASE_MOST];
-    words[10] = -1;
-    words[11] = -12;
-    words[12] = -144;
-    words[13] = -1728;
-    words[14] = -20000;
-    rounds_of(3, words, 15);
+    words[10] = five[0];
+    words[11] = five[1];
+    words[12] = five[2];
+    words[13] = five[3];
+    words[14] = five[4];
+    rounds_of(kind, words, 15);
 }
 
 // The rounds of the first n words, at most 32.

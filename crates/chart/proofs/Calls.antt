@@ -1,66 +1,43 @@
 -- Laws of the calls: when a call is refused, when it is not, and what it then gives. All four calls have the same shape.
 use mathlib.Core.Path.{_≡_, refl, sym, ap, _∙_}
-use mathlib.Core.Bool.{Bool, true, false}
+use mathlib.Core.Bool.{true, false}
 use mathlib.Core.List.{List, _++_}
 use Prim.Native.Nat.{ℕ, zero, suc, _<_, _≤_}
-use lib.ListN.{length}
 use lib.IntN.{ℤ}
 use native.Mathlib.Omega.{arith}
-use Rattle.guide.specs.Choice.{require}
-use Rattle.guide.specs.Sizes.{baseWanted, baseMost, seriesMost}
-use Rattle.guide.specs.Word as word
-use Rattle.guide.specs.Standing.{numberStanding}
-use Rattle.guide.specs.Tail.{Tail, ofWords, noTail, IsTail, shortestTail}
-use Rattle.guide.specs.State.{State, limitsFor, addWord, replaceLast, setStatus}
-use Rattle.guide.specs.Verdict.{verdict, statusFor}
-use Rattle.guide.specs.Reanalysis.{passes}
-use Rattle.guide.specs.Machine.{Call, post, reanalysis, correction, renewal, Answer, judged, reanalysed, corrected, renewed, refused}
-use Rattle.guide.specs.Machine.{Next, declined, refusalFor, wordFor, ifFormed, posting, afterReanalysis, reanalysing}
-use Rattle.guide.specs.Machine.{correcting, renewedBy, renewedByTail, renewing, performed, step}
-use Rattle.guide.proofs.Booleans.{by-test}
-use Rattle.guide.proofs.Tail.{tail-is}
+use Rattle.rules.specs.Outcome.{Outcome, given}
+use Rattle.rules.specs.Outcome as outcome
+use Rattle.rules.specs.Sizes.{baseWanted}
+use Rattle.rules.specs.Word as word
+use Rattle.rules.specs.Standing.{numberStanding}
+use Rattle.rules.specs.Tail.{Tail, ofWords, noTail, IsTail, shortestTail}
+use Rattle.rules.specs.State.{State, limitsFor, addWord, replaceLast, setStatus}
+use Rattle.rules.specs.Verdict.{verdict, statusFor}
+use Rattle.rules.specs.Reanalysis.{passes}
+use Rattle.rules.specs.Machine.{Call, correction, renewal, Answer, judged, reanalysed, corrected, renewed, refused}
+use Rattle.rules.specs.Machine.{Next, declined, postRefusal, reanalysisRefusal, correctionRefusal, renewalRefusal, refusalFor}
+use Rattle.rules.specs.Machine.{wordFor, ifFormed, posting, afterReanalysis, reanalysing}
+use Rattle.rules.specs.Machine.{correcting, renewedBy, renewedByTail, renewing, performed, step}
+use Rattle.rules.proofs.Tail.{tail-is}
+use Rattle.rules.proofs.Machine.{can-post, can-reanalyse}
 use Rattle.chart.specs.declared.Chart.{Chart}
 use Rattle.chart.specs.declared.rejection.RejectionAnswer.{RejectionAnswer}
 use Rattle.chart.specs.Chart.{stateOf, chartOf, withStatus, freshChart}
 use Rattle.chart.specs.Rejection.{IsRejection}
 use Rattle.chart.specs.Tail.{rejectionOf, tailRejection}
-use Rattle.chart.specs.Soundness.{soundChart}
-use Rattle.chart.specs.Calls.{nextChart, answerTo, Gives, refusalOn, wordUnless}
-use Rattle.chart.proofs.State.{Within, Given, given, chart-of-state, fresh-is}
+use Rattle.chart.specs.Soundness.{soundChart, HasRoom, HasLast}
+use Rattle.chart.specs.Calls.{nextChart, answerTo, Gives, Does, wordUnless}
+use Rattle.chart.proofs.State.{Given, chart-of-state, series-count, some-series, fresh-is}
 
--- ---- the number of a call's refusal
-
--- 14 and the number k + 1 for the status come first. If they do not apply, the rest decides
-module _ (c : Chart) (n k rest : ℕ) (free : Bool) (e : n ≡ refusalOn c (require free (suc k) 0)) where
-  first-by : (t u : Bool) → n ≡ require t 14 (require u (suc k) 0) → (n ≡ 0 → ⊥) → n ≡ require t 14 (require u (suc k) rest)
-  first-by true true f ne = absurd (ne f)
-  first-by true false f ne = f
-  first-by false u f ne = f
-
-  pub status-declines : (n ≡ 0 → ⊥) → n ≡ refusalOn c (require free (suc k) rest)
-  unfolding refusalOn
-  status-declines ne = first-by (soundChart c) free e ne
-
-  then-by : (t u : Bool) → n ≡ require t 14 (require u (suc k) 0) → n ≡ 0 → (t ≡ true) × (rest ≡ require t 14 (require u (suc k) rest))
-  then-by true true f z = (refl, refl)
-  then-by true false f z = absurd (omega arith)
-  then-by false u f z = absurd (omega arith)
-
-  -- the rest decides, and the chart's lengths lie within its arrays
-  pub status-allows : length (c .base) ≡ baseMost → length (c .series) ≡ seriesMost → n ≡ 0
-      → Within c × (rest ≡ refusalOn c (require free (suc k) rest))
-  unfolding refusalOn
-  status-allows base series z =
-      let parts = then-by (soundChart c) free e z in
-      (given c base series (parts .0) .within, parts .1)
+-- ---- a reading comes after the refusals that come first
 
 -- a number that is not 0 comes before the reading. If it is 0, the reading decides
-pub number-first : (n chartKind kind : ℕ) (a b c : ℤ) → (n ≡ 0 → ⊥) → word.refused n ≡ wordUnless n chartKind kind a b c
+pub number-first : (n chartKind kind : ℕ) (a b c : ℤ) → (n ≡ 0 → ⊥) → outcome.refused n ≡ wordUnless n chartKind kind a b c
 unfolding wordUnless
 number-first zero chartKind kind a b c ne = absurd (ne refl)
 number-first (suc n) chartKind kind a b c ne = refl
 
-pub reading-then : (n chartKind kind : ℕ) (a b c : ℤ) → n ≡ 0 → (f : word.Formed) → f ≡ wordFor chartKind kind a b c
+pub reading-then : (n chartKind kind : ℕ) (a b c : ℤ) → n ≡ 0 → (f : Outcome ℤ) → f ≡ wordFor chartKind kind a b c
     → f ≡ wordUnless n chartKind kind a b c
 unfolding wordUnless
 reading-then zero chartKind kind a b c z f e = e
@@ -77,138 +54,105 @@ performs : (s : State) (call : Call) → refusalFor s call ≡ 0 → step s call
 unfolding step
 performs s call e = rw e
 
--- ---- what a call on a sound chart gives, by the machine's step
+-- ---- what a call gives
 
-module _ (c : Chart) (call : Call) (next : Next) (t : soundChart c ≡ true) (e : step (stateOf c) call ≡ next) where
-  gives : (d : Chart) (a : Answer) → d ≡ chartOf (next .state) → a ≡ next .answer → Gives c call d a
-  unfolding nextChart answerTo
-  gives d a p q = record { chart = rw (t, e) p; says = rw (t, e) q }
-
--- ---- a chart that is not sound: 14, and the call gives back the same chart
-
-pub not-sound : (c : Chart) (call : Call) → soundChart c ≡ false → Gives c call c (refused 14)
+-- a chart that is not sound: 14, and the call gives back the same chart
+pub not-sound : {c : Chart} {call : Call} → soundChart c ≡ false → Gives c call c (refused 14)
 unfolding nextChart answerTo
-not-sound c call t = record { chart = rw t; says = rw t }
+not-sound t = record { chart = rw t; says = rw t }
 
--- ---- a call that is refused before its reading: n is the number, and the call gives back the same chart
-
-module _ (c : Chart) (call : Call) (n : ℕ) (base : length (c .base) ≡ baseMost) (series : length (c .series) ≡ seriesMost)
-    (e : n ≡ refusalOn c (refusalFor (stateOf c) call)) where
-  by-machine : soundChart c ≡ true → (n ≡ 0 → ⊥) → Gives c call c (refused n)
-  unfolding refusalOn
-  by-machine t ne =
-      let number : n ≡ refusalFor (stateOf c) call = rw t at e in
-      let step-is = declines (stateOf c) call n number ne in
-      gives c call (declined (stateOf c) n) t step-is c (refused n) (sym (chart-of-state c (given c base series t))) refl
-
-  unsound : soundChart c ≡ false → Gives c call c (refused n)
-  unfolding refusalOn
-  unsound t =
-      let number : n ≡ 14 = rw t at e in
-      rw number (not-sound c call t)
-
-  pub call-declined : (n ≡ 0 → ⊥) → Gives c call c (refused n)
-  call-declined ne = by-test (soundChart c) (λ t. by-machine t ne) unsound
-
--- ---- a call that is not refused before its reading
-
--- the chart is sound, and the machine performs the call: no refusal that comes first applies
-pub record Accepted (c : Chart) (call : Call) : Type 0 where
-  pub sound : Given c
-  pub is-sound : soundChart c ≡ true
+-- no refusal that comes first applies to the call, and the machine performs it
+pub record Performs (c : Chart) (call : Call) (next : Next) : Type 0 where
   pub nothing : refusalFor (stateOf c) call ≡ 0
+  pub is-next : performed (stateOf c) call ≡ next
 
-zero-if-sound : (t : Bool) (n : ℕ) → 0 ≡ require t 14 n → (t ≡ true) × (n ≡ 0)
-zero-if-sound true n e = (refl, sym e)
-zero-if-sound false n e = absurd (omega arith)
+module _ (c : Chart) (g : Given c) where
+  -- a refusal changes nothing
+  unchanged : (n : ℕ) → Does (declined (stateOf c) n) c (refused n)
+  unchanged n = record { chart = sym (chart-of-state c g); says = refl }
 
-pub call-accepted : (c : Chart) (call : Call) (n : ℕ) → length (c .base) ≡ baseMost → length (c .series) ≡ seriesMost
-    → n ≡ refusalOn c (refusalFor (stateOf c) call) → n ≡ 0 → Accepted c call
-unfolding refusalOn
-call-accepted c call n base series e z =
-    let parts = zero-if-sound (soundChart c) (refusalFor (stateOf c) call) (sym z ∙ e) in
-    record { sound = given c base series (parts .0); is-sound = parts .0; nothing = parts .1 }
+  module _ (call : Call) where
+    gives : {next : Next} {d : Chart} {a : Answer} → step (stateOf c) call ≡ next → Does next d a → Gives c call d a
+    unfolding nextChart answerTo
+    gives e does = record { chart = rw (g .is-sound, e) (does .chart); says = rw (g .is-sound, e) (does .says) }
 
-module _ (c : Chart) (call : Call) (k : Accepted c call) where
-  performed-gives : (next : Next) → performed (stateOf c) call ≡ next → (d : Chart) (a : Answer) → d ≡ chartOf (next .state)
-      → a ≡ next .answer → Gives c call d a
-  performed-gives next e = gives c call next (k .is-sound) (performs (stateOf c) call (k .nothing) ∙ e)
+    pub call-declined : (n : ℕ) → n ≡ refusalFor (stateOf c) call → (n ≡ 0 → ⊥) → Gives c call c (refused n)
+    call-declined n e ne = gives (declines (stateOf c) call n e ne) (unchanged n)
 
--- ---- setting the status and the open verdict
+    pub call-performed : {next : Next} {d : Chart} {a : Answer} → Performs c call next → Does next d a → Gives c call d a
+    call-performed p = gives (performs (stateOf c) call (p .nothing) ∙ p .is-next)
+
+-- ---- a call that brings a reading. `next` is what the machine does with the word of the reading
+
+-- what comes of the word formed, or of the refusal
+abbrev pub Reads : Chart → Call → (ℤ → Next) → Outcome ℤ → Type 0
+Reads c call next (given w) = Performs c call (next w)
+Reads c call next (outcome.refused n) = Gives c call c (refused n)
+
+-- the number of a refusal, and 0 for a word
+abbrev refusalOf : Outcome ℤ → ℕ
+refusalOf (given w) = 0
+refusalOf (outcome.refused n) = n
+
+module _ (c : Chart) (g : Given c) (call : Call) (kind : ℕ) (a b x : ℤ) (next : ℤ → Next)
+    (p : performed (stateOf c) call ≡ ifFormed (stateOf c) (wordFor (stateOf c .kind) kind a b x) next) where
+  formed-next : (f : Outcome ℤ) → refusalFor (stateOf c) call ≡ 0 → f ≡ wordFor (stateOf c .kind) kind a b x
+      → Performs c call (ifFormed (stateOf c) f next)
+  formed-next f z h = record { nothing = z; is-next = p ∙ ap (λ (r : Outcome ℤ). ifFormed (stateOf c) r next) (sym h) }
+
+  -- n is the number of the refusal that comes first, or 0
+  pub reading : (n : ℕ) (f : Outcome ℤ) → n ≡ refusalFor (stateOf c) call → f ≡ wordUnless n (stateOf c .kind) kind a b x
+      → Reads c call next f
+  unfolding wordUnless
+  reading zero (given w) e h = formed-next (given w) (sym e) h
+  reading zero (outcome.refused m) e h = call-performed c g call (formed-next (outcome.refused m) (sym e) h) (unchanged c g m)
+  reading (suc n) (given w) e h = let number : 0 ≡ suc n = ap refusalOf h in absurd (omega arith)
+  reading (suc n) (outcome.refused m) e h =
+      let number : m ≡ suc n = ap refusalOf h in
+      rw number (call-declined c g call (suc n) e (λ z. absurd (omega arith)))
+
+-- ---- what the calls do
+
+-- no refusal comes before the reading of a post, so the series has room. None comes before that of a reanalysis, so it has a last word
+pub has-room : (c : Chart) → Given c → postRefusal (stateOf c) ≡ 0 → HasRoom c
+unfolding stateOf
+has-room c g none = record { sound = g .is-sound; room = omega (arith, can-post (stateOf c) none .1, series-count c (g .within)) }
+
+pub has-last : (c : Chart) → Given c → reanalysisRefusal (stateOf c) ≡ 0 → HasLast c
+has-last c g none = record { sound = g .is-sound; some = some-series c g 1 (can-reanalyse (stateOf c) none) (omega arith) }
 
 status-set : (s : State) (c : Chart) (status v : ℕ) → c ≡ chartOf s → withStatus c status v ≡ chartOf (setStatus s status v)
 unfolding withStatus setStatus chartOf
 status-set s c status v e = ap (λ (x : Chart). withStatus x status v) e
 
--- ---- the four calls
+-- the word is added with its verdict
+pub posted : (s : State) (w : ℤ) (v status : ℕ) (added d : Chart) → v ≡ verdict (limitsFor s) (addWord s w .series)
+    → added ≡ chartOf (addWord s w) → status ≡ statusFor v → d ≡ withStatus added status v → Does (posting s w) d (judged w v)
+unfolding posting addWord
+posted s w v status added d e f g h =
+    let set = status-set (addWord s w) added status v f ∙ (λ i. chartOf (setStatus (addWord s w) ((g ∙ ap statusFor e) i) (e i))) in
+    record { chart = h ∙ set; says = ap (judged w) e }
 
--- the number of a refusal, and 0 for a word
-abbrev refusalOf : word.Formed → ℕ
-refusalOf (word.formed w) = 0
-refusalOf (word.refused n) = n
+-- the word passes in place of the last word, or it fails
+pub passed : (s : State) (w : ℤ) (replaced d : Chart) → passes (limitsFor s) (s .openVerdict) (s .series) w ≡ true
+    → replaced ≡ chartOf (replaceLast s w) → d ≡ withStatus replaced 0 0 → Does (reanalysing s w) d (reanalysed w true)
+unfolding reanalysing afterReanalysis
+passed s w replaced d t f h = rw t (record { chart = h ∙ status-set (replaceLast s w) replaced 0 0 f; says = refl })
 
--- a call that brings a reading. `next` is what the call gives for the word of the reading
-module _ (c : Chart) (call : Call) (kind : ℕ) (a b x : ℤ) (next : ℤ → Next) (base : length (c .base) ≡ baseMost)
-    (series : length (c .series) ≡ seriesMost)
-    (p : performed (stateOf c) call ≡ ifFormed (stateOf c) (wordFor (stateOf c .kind) kind a b x) next) where
-  -- the call is refused with a number
-  pub reading-declined : (n m : ℕ) → n ≡ refusalOn c (refusalFor (stateOf c) call)
-      → wordUnless n (stateOf c .kind) kind a b x ≡ word.refused m → Gives c call c (refused m)
-  unfolding wordUnless
-  reading-declined zero m e h =
-      let k = call-accepted c call 0 base series e refl in
-      let same = sym (chart-of-state c (k .sound)) in
-      let declines-it = p ∙ ap (λ (f : word.Formed). ifFormed (stateOf c) f next) h in
-      performed-gives c call k (declined (stateOf c) m) declines-it c (refused m) same refl
-  reading-declined (suc n) m e h =
-      let number : suc n ≡ m = ap refusalOf h in
-      rw (← number) (call-declined c call (suc n) base series e (λ z. absurd (omega arith)))
+module _ (c d : Chart) (g : Given c) where
+  -- the status alone changes
+  only-status : (status : ℕ) → d ≡ withStatus c status (c .«open_verdict») → d ≡ chartOf (setStatus (stateOf c) status (c .«open_verdict»))
+  only-status status h = h ∙ status-set (stateOf c) c status (c .«open_verdict») (sym (chart-of-state c g))
 
-  -- the reading gives a word, so the call was not refused before
-  pub reading-taken : (n : ℕ) (w : ℤ) → n ≡ refusalOn c (refusalFor (stateOf c) call)
-      → wordUnless n (stateOf c .kind) kind a b x ≡ word.formed w
-      → Accepted c call × (wordFor (stateOf c .kind) kind a b x ≡ word.formed w)
-  unfolding wordUnless
-  reading-taken zero w e h = (call-accepted c call 0 base series e refl, h)
-  reading-taken (suc n) w e h = let number : suc n ≡ 0 = ap refusalOf h in absurd (omega arith)
-
-module _ (c : Chart) (kind : ℕ) (a b x w : ℤ) (formed : wordFor (stateOf c .kind) kind a b x ≡ word.formed w) where
-  -- the word is added with its verdict
-  pub posted : Accepted c (post kind a b x) → (v status : ℕ) (added d : Chart)
-      → v ≡ verdict (limitsFor (stateOf c)) (addWord (stateOf c) w .series)
-      → added ≡ chartOf (addWord (stateOf c) w) → status ≡ statusFor v → d ≡ withStatus added status v
-      → Gives c (post kind a b x) d (judged w v)
-  unfolding posting addWord
-  posted k v status added d e f g h =
-      let s = stateOf c in
-      let set = status-set (addWord s w) added status v f ∙ (λ i. chartOf (setStatus (addWord s w) ((g ∙ ap statusFor e) i) (e i))) in
-      performed-gives c (post kind a b x) k (posting s w) (rw formed) d (judged w v) (h ∙ set) (ap (judged w) e)
-
-  -- the word passes in place of the last word, or it fails
-  pub passed : Accepted c (reanalysis kind a b x) → (replaced d : Chart)
-      → passes (limitsFor (stateOf c)) (stateOf c .openVerdict) (stateOf c .series) w ≡ true
-      → replaced ≡ chartOf (replaceLast (stateOf c) w) → d ≡ withStatus replaced 0 0 → Gives c (reanalysis kind a b x) d (reanalysed w true)
-  unfolding reanalysing afterReanalysis
-  passed k replaced d t f h =
-      let s = stateOf c in
-      let set = status-set (replaceLast s w) replaced 0 0 f in
-      performed-gives c (reanalysis kind a b x) k (reanalysing s w) (rw formed) d (reanalysed w true) (rw t (h ∙ set)) (rw t)
-
-  pub failed : Accepted c (reanalysis kind a b x) → (d : Chart)
-      → passes (limitsFor (stateOf c)) (stateOf c .openVerdict) (stateOf c .series) w ≡ false
-      → d ≡ withStatus c 2 (c .«open_verdict») → Gives c (reanalysis kind a b x) d (reanalysed w false)
+  pub failed : (w : ℤ) → passes (limitsFor (stateOf c)) (stateOf c .openVerdict) (stateOf c .series) w ≡ false
+      → d ≡ withStatus c 2 (c .«open_verdict») → Does (reanalysing (stateOf c) w) d (reanalysed w false)
   unfolding reanalysing afterReanalysis stateOf
-  failed k d t h =
-      let s = stateOf c in
-      let set = status-set s c 2 (c .«open_verdict») (sym (chart-of-state c (k .sound))) in
-      performed-gives c (reanalysis kind a b x) k (reanalysing s w) (rw formed) d (reanalysed w false) (rw t (h ∙ set)) (rw t)
+  failed w t h = rw t (record { chart = only-status 2 h; says = refl })
 
-pub correction-gives : (c d : Chart) → Accepted c correction → d ≡ withStatus c 1 (c .«open_verdict») → Gives c correction d corrected
-unfolding correcting stateOf
-correction-gives c d k h =
-    let s = stateOf c in
-    let set = status-set s c 1 (c .«open_verdict») (sym (chart-of-state c (k .sound))) in
-    performed-gives c correction k (correcting s) refl d corrected (h ∙ set) refl
+  pub correction-gives : correctionRefusal (stateOf c) ≡ 0 → d ≡ withStatus c 1 (c .«open_verdict») → Gives c correction d corrected
+  unfolding correcting stateOf
+  correction-gives none h =
+      call-performed c g correction (record { nothing = none; is-next = refl }) (record { chart = only-status 1 h; says = refl })
 
 -- ---- a renewal that is not refused before rejection. a is the answer of the tail's rejection, and the words that stand decide
 
@@ -223,7 +167,7 @@ enough-of-tail : (s : State) (a : RejectionAnswer) (t : Tail) → IsRejection (r
 enough-of-tail s a (ofWords k) is enough = refl
 enough-of-tail s a noTail is enough = absurd (omega (arith, is .left .count))
 
-module _ (c : Chart) (a : RejectionAnswer) (k : Accepted c renewal)
+module _ (c : Chart) (a : RejectionAnswer) (g : Given c) (nothing : renewalRefusal (stateOf c) ≡ 0)
     (is : IsRejection (tailRejection (c .kind) (stateOf c .base ++ stateOf c .series)) a) where
   abbrev words : List ℤ
   words = stateOf c .base ++ stateOf c .series
@@ -231,17 +175,15 @@ module _ (c : Chart) (a : RejectionAnswer) (k : Accepted c renewal)
   pub renewal-too-few : a .left .n < baseWanted → Gives c renewal c (refused 16)
   unfolding renewing stateOf tailRejection
   renewal-too-few few =
-      let s = stateOf c in
-      let declines-it = few-of-tail s a (shortestTail (c .kind) words) (tail-is (c .kind) words) is few in
-      performed-gives c renewal k (declined s 16) declines-it c (refused 16) (sym (chart-of-state c (k .sound))) refl
+      let none = few-of-tail (stateOf c) a (shortestTail (c .kind) words) (tail-is (c .kind) words) is few in
+      call-performed c g renewal (record { nothing = nothing; is-next = none }) (unchanged c g 16)
 
   pub renewal-gives : baseWanted ≤ a .left .n → (d : Chart) → d ≡ freshChart (c .kind) (a .left .words) (a .left .n)
       → Gives c renewal d (renewed (a .rounds) (a .removed))
   unfolding renewing stateOf tailRejection
   renewal-gives enough d f =
-      let s = stateOf c in
       let r = tailRejection (c .kind) words in
-      let renews = enough-of-tail s a (shortestTail (c .kind) words) is enough in
+      let renews = enough-of-tail (stateOf c) a (shortestTail (c .kind) words) is enough in
       let chart = f ∙ fresh-is (c .kind) (r .base) (a .left .words) (a .left .n) (is .left .words) (is .left .count) in
-      performed-gives c renewal k (renewedBy s r) renews d (renewed (a .rounds) (a .removed)) chart
-      (λ i. renewed (is .rounds i) (is .removed i))
+      call-performed c g renewal (record { nothing = nothing; is-next = renews })
+      (record { chart = chart; says = λ i. renewed (is .rounds i) (is .removed i) })

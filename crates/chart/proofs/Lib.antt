@@ -6,6 +6,6 @@ mod Tails
 pub mod SoundCharts
 pub mod State
 pub mod ZeroChart
-mod Building
+mod Builds
 mod Calls
 pub mod Runs

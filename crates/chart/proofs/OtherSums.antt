@@ -4,12 +4,12 @@ use mathlib.Core.Path.{_≡_, refl, ap, _∙_}
 use mathlib.Core.List.{[], _∷_}
 use native.Mathlib.Omega.{arith}
 use lib.IntN.{pos}
-use Rattle.guide.specs.Kind.{hasLower}
-use Rattle.guide.specs.Limits as guide
-use Rattle.guide.specs.Limits.{sumOf, sumOfSquares, sumsOf, sumBy, vOf, scaledDeviation, exceeds, aboveMean, belowMean, above, below}
-use Rattle.guide.specs.Limits.{beyondUpper, beyondLower, beyond, beyondControl}
-use Rattle.guide.specs.Carried.{only, lessWords, beyondGiven, removedWords, handedOn}
-use Rattle.guide.specs.Figures.{withOtherSums}
+use Rattle.rules.specs.Kind.{hasLower}
+use Rattle.rules.specs.Limits as rules
+use Rattle.rules.specs.Limits.{sumOf, sumOfSquares, sumsOf, sumBy, vOf, scaledDeviation, exceeds, aboveMean, belowMean, above, below}
+use Rattle.rules.specs.Limits.{beyondUpper, beyondLower, beyond, beyondControl}
+use Rattle.rules.specs.Carried.{only, lessWords, beyondGiven, removedWords, handedOn}
+use Rattle.rules.specs.Figures.{withOtherSums}
 use Rattle.limits.specs.declared.Sums.{Sums}
 use Rattle.limits.specs.Sums.{sumsSay, AreSums, Removable}
 use Rattle.chart.specs.declared.rejection.HandedOn.{HandedOn}
@@ -23,7 +23,7 @@ same-as-figure = refl
 
 pub not-own : AreSums (withOtherSums .words) others → ⊥
 unfolding sumsOf
-not-own h = absurd (omega (arith, ap (λ (x : guide.Sums). x .n) (h .same)))
+not-own h = absurd (omega (arith, ap (λ (x : rules.Sums). x .n) (h .same)))
 
 removes-100 : removedWords 1 withOtherSums ≡ pos 100 ∷ []
 unfolding removedWords only beyondGiven beyondControl beyond beyondUpper beyondLower above below aboveMean belowMean exceeds scaledDeviation

@@ -6,15 +6,15 @@ use Prim.Native.Nat.{ℕ, zero, suc, _+_, _-_, _<_, _≤_}
 use native.Mathlib.Omega.{arith}
 use native.Mathlib.Numerals.{add-one}
 use lib.ListN.{length, take, drop, set, getD, replicate, length-append, length-drop, length-set, take-append-drop}
-use lib.Seq.{take-at, set-at, take-suc, take-suc-set, drop-set-lt, length-take-le, drop-append-seam, getD-append-add}
+use lib.Seq.{take-at, take-all, set-at, take-suc, take-suc-set, drop-set-lt, length-take-le, drop-append-seam, getD-append-add}
 use lib.IntN.{ℤ, pos, negsuc}
 use mir.Syntax.{w16}
 use mir.Val.{SFits, toZ, ofZ}
 use mir.Facts.{toZ-ofZ}
 use borrow.Author.Tests.{eqb-true, ne-eqb}
-use Rattle.guide.specs.AllOf.{allOf}
-use Rattle.guide.proofs.AllOf.{all-next}
-use Rattle.guide.proofs.Booleans.{both}
+use Rattle.rules.specs.AllOf.{allOf}
+use Rattle.rules.proofs.AllOf.{all-next}
+use Rattle.rules.proofs.Booleans.{both}
 use Rattle.chart.specs.Pad.{pad}
 use Rattle.chart.specs.Soundness.{isZero, unusedHoldZero}
 
@@ -32,12 +32,24 @@ module _ {ℓ} {A : Type ℓ} (filler : A) (size : ℕ) where
       let f : size - length l ≡ suc (size - length (l ++ (a ∷ []))) = omega (arith, length-append l (a ∷ [])) in
       rw (f, set-at l filler (replicate (size - length (l ++ (a ∷ []))) filler) a n (sym e), append-assoc)
 
-  -- a list copied place by place: after i turns its first i elements are in place
-  pub pad-next : (l : List A) (i : ℕ) (d : A) → i < length l → length l ≤ size
-      → set (pad filler size (take i l)) i (getD l i d) ≡ pad filler size (take (i + 1) l)
-  pad-next l i d h few =
-      let n : i ≡ length (take i l) = sym (length-take-le i l (omega arith)) in
-      pad-snoc (take i l) (getD l i d) i n (omega arith) ∙ ap (pad filler size) (sym (rw (add-one, take-suc l i d)))
+-- a loop that copies a list place by place: after i turns its first i elements are in place
+pub record Copied {A : Type 0} (filler : A) (size : ℕ) (l : List A) (i : ℕ) (places : List A) : Type 0 where
+  pub front : places ≡ pad filler size (take i l)
+
+module _ {A : Type 0} {filler : A} {size : ℕ} (l : List A) where
+  pub copied-none : Copied filler size l 0 (replicate size filler)
+  unfolding pad
+  copied-none = let all : size ≡ size - 0 = omega arith in record { front = ap (λ (n : ℕ). replicate n filler) all }
+
+  module _ {i : ℕ} {places : List A} (k : Copied filler size l i places) where
+    pub copied-next : (d : A) {e : A} → i < length l → length l ≤ size → e ≡ getD l i d → Copied filler size l (i + 1) (set places i e)
+    copied-next d h few is =
+        let n : i ≡ length (take i l) = sym (length-take-le i l (omega arith)) in
+        let more : take i l ++ (getD l i d ∷ []) ≡ take (i + 1) l = sym (rw (add-one, take-suc l i d)) in
+        record { front = rw (is, k .front) (pad-snoc filler size (take i l) (getD l i d) i n (omega arith) ∙ ap (pad filler size) more) }
+
+    pub copied-all : length l ≤ i → places ≡ pad filler size l
+    copied-all h = k .front ∙ ap (pad filler size) (take-all i l h)
 
 -- equal places without the first n
 pub drop-replicate {ℓ} : {A : Type ℓ} (n size : ℕ) (x : A) → drop n (replicate size x) ≡ replicate (size - n) x

@@ -6,14 +6,14 @@ use Prim.Native.Nat.{ℕ, _+_, _-_, _<_, _≤_}
 use native.Mathlib.Omega.{arith}
 use lib.ListN.{length, take, length-map}
 use lib.IntN.{ℤ, pos}
-use Rattle.guide.specs.Sizes.{baseMost}
-use Rattle.guide.specs.Limits.{beyondControl}
-use Rattle.guide.specs.Rejection.{afterRound, rejection}
-use Rattle.guide.specs.Carried.{lessWords, beyondGiven, removedWords, handedOn, withOwnSums}
-use Rattle.guide.specs.Standing.{numberStanding}
-use Rattle.guide.proofs.Rejection.{round-shorter, round-removes-nothing, rejection-ends, rejection-goes-on}
-use Rattle.guide.proofs.Rejection.{rejection-counts, rejection-rounds}
-use Rattle.guide.proofs.Carried.{hands-on-less, hands-on-own}
+use Rattle.rules.specs.Sizes.{baseMost}
+use Rattle.rules.specs.Limits.{beyondControl}
+use Rattle.rules.specs.Rejection.{afterRound, rejection}
+use Rattle.rules.specs.Carried.{lessWords, beyondGiven, removedWords, handedOn, withOwnSums}
+use Rattle.rules.specs.Standing.{numberStanding}
+use Rattle.rules.proofs.Rejection.{round-shorter, round-removes-nothing, rejection-ends, rejection-goes-on}
+use Rattle.rules.proofs.Rejection.{rejection-counts, rejection-rounds}
+use Rattle.rules.proofs.Carried.{hands-on-less, hands-on-own}
 use Rattle.limits.specs.declared.Sums.{Sums}
 use Rattle.limits.specs.Sums.{sumsSay, limitsSay, AreSums}
 use Rattle.limits.proofs.Removing.{removable-own, own-less}
@@ -21,7 +21,7 @@ use Rattle.chart.specs.declared.rejection.Standing.{Standing}
 use Rattle.chart.specs.declared.rejection.HandedOn.{HandedOn}
 use Rattle.chart.specs.declared.rejection.RejectionAnswer.{RejectionAnswer}
 use Rattle.chart.specs.Pad.{pad}
-use Rattle.chart.specs.Rejection.{withoutMarked, marked, Holds, IsRejection, givenSays, CanRemove, HandsOn}
+use Rattle.chart.specs.Rejection.{withoutMarked, marked, HoldsWords, IsRejection, givenSays, CanRemove, HandsOn}
 use Rattle.chart.proofs.Places.{take-pad}
 use Rattle.chart.proofs.Marks.{unmarked-by, marked-by}
 
@@ -40,7 +40,7 @@ module _ (kind n : ℕ) (ws : List ℤ) (s : Sums) (marks : List Bool) (count : 
   unfolding removedWords
   marked-removed = ap (λ (x : List Bool). marked x ws) marks-are ∙ marked-by test ws
 
-  pub round-is : (r : HandedOn) → Holds (withoutMarked (take n marks) ws) (r .left)
+  pub round-is : (r : HandedOn) → HoldsWords (withoutMarked (take n marks) ws) (r .left)
       → sumsSay (r .sums) ≡ lessWords (sumsSay s) (marked (take n marks) ws) → HandsOn kind (givenSays ws s) r
   unfolding handedOn
   round-is r left sums =
@@ -49,7 +49,7 @@ module _ (kind n : ℕ) (ws : List ℤ) (s : Sums) (marks : List Bool) (count : 
       record { left = rw kept at left; sums = less ∙ sym (hands-on-less kind (givenSays ws s)) }
 
 -- the words that stand in places are those that the places hold
-standing : {ws : List ℤ} (left : Standing) → Holds ws left → take (left .n) (left .words) ≡ ws
+standing : {ws : List ℤ} (left : Standing) → HoldsWords ws left → take (left .n) (left .words) ≡ ws
 standing {ws} left h = ap (take (left .n)) (h .words) ∙ take-pad (pos 0) baseMost ws (left .n) (h .count)
 
 -- ---- a round that is given the sums of the words themselves
@@ -68,7 +68,7 @@ module _ (kind : ℕ) (ws : List ℤ) (s : Sums) (own : AreSums ws s) where
     next-own = ap (handedOn kind) says-own ∙ hands-on-own kind ws
 
     -- it leaves the words that document 01's round leaves
-    pub leaves : Holds (afterRound kind ws) (r .left)
+    pub leaves : HoldsWords (afterRound kind ws) (r .left)
     unfolding withOwnSums
     leaves = rw next-own at (h .left)
 
@@ -81,7 +81,7 @@ module _ (kind : ℕ) (ws : List ℤ) (s : Sums) (own : AreSums ws s) where
 
 -- ---- rejection, from what a round leaves
 
-module _ (kind : ℕ) (ws : List ℤ) (left : Standing) (h : Holds (afterRound kind ws) left) where
+module _ (kind : ℕ) (ws : List ℤ) (left : Standing) (h : HoldsWords (afterRound kind ws) left) where
   pub rejects-last : left .n ≡ length ws → IsRejection (rejection kind ws) (record { left = left; rounds = 1; removed = 0 })
   rejects-last e =
       let s = sym (h .count) ∙ e in
@@ -100,12 +100,13 @@ module _ (kind : ℕ) (ws : List ℤ) (left : Standing) (h : Holds (afterRound k
       (record { left = again .left; rounds = ap (λ (x : ℕ). x + 1) (again .rounds); removed = omega (arith, again .removed, h .count) })
 
 -- bounds on rounds and removals
-pub record Few (ws : List ℤ) (r : RejectionAnswer) : Type 0 where
-  pub rounds : r .rounds ≤ length ws + 1
-  pub removed : r .removed ≤ length ws
+pub record Few (most : ℕ) (r : RejectionAnswer) : Type 0 where
+  pub rounds : r .rounds ≤ most + 1
+  pub removed : r .removed ≤ most
 
-pub few-rounds : (kind : ℕ) (ws : List ℤ) (r : RejectionAnswer) → IsRejection (rejection kind ws) r → Few ws r
-few-rounds kind ws r k =
+pub few-rounds : (kind : ℕ) (ws : List ℤ) (r : RejectionAnswer) → IsRejection (rejection kind ws) r → (most : ℕ)
+    → length ws ≤ most → Few most r
+few-rounds kind ws r k most h =
     let counts = rejection-counts kind ws in
     record { rounds = omega (arith, k .rounds, rejection-rounds kind ws .1); removed = omega (arith, k .removed) }
 

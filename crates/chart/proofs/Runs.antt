@@ -7,13 +7,14 @@ use Prim.Native.Nat.{ℕ, _≤_}
 use lib.ListN.{length}
 use lib.IntN.{ℤ}
 use borrow.Author.Tests.{le-leb}
-use Rattle.guide.specs.Sizes.{baseLeast, baseMost, seriesMost}
-use Rattle.guide.specs.State.{State}
-use Rattle.guide.specs.Building.{building, built}
-use Rattle.guide.specs.Soundness.{sound}
-use Rattle.guide.specs.Machine.{Call, refused, step, after, answers}
-use Rattle.guide.proofs.Soundness.{sound-facts, built-sound}
-use Rattle.guide.proofs.Machine.{step-sound, after-sound, after-ten, answers-not-fourteen}
+use Rattle.rules.specs.Outcome.{given}
+use Rattle.rules.specs.Sizes.{baseLeast, baseMost, seriesMost}
+use Rattle.rules.specs.State.{State}
+use Rattle.rules.specs.Building.{BuiltState, building}
+use Rattle.rules.specs.Soundness.{sound}
+use Rattle.rules.specs.Machine.{Call, refused, step, after, answers}
+use Rattle.rules.proofs.Soundness.{sound-facts, built-sound}
+use Rattle.rules.proofs.Machine.{step-sound, after-sound, after-ten, answers-not-fourteen}
 use Rattle.chart.specs.declared.Chart.{Chart}
 use Rattle.chart.specs.Chart.{chartOf}
 use Rattle.chart.specs.Soundness.{placesSound, soundChart}
@@ -78,6 +79,5 @@ sound-runs s calls h =
     }
 
 -- every list of calls on a chart that building gives
-pub built-runs : (kind : ℕ) (words : List ℤ) (s : State) (rounds removed : ℕ) → building kind words ≡ built s rounds removed
-    → (calls : List Call) → Runs s calls
-built-runs kind words s rounds removed e calls = sound-runs s calls (built-sound kind words s rounds removed e)
+pub built-runs : (kind : ℕ) (words : List ℤ) (b : BuiltState) → building kind words ≡ given b → (calls : List Call) → Runs (b .state) calls
+built-runs kind words b e calls = sound-runs (b .state) calls (built-sound kind words b e)

@@ -4,9 +4,9 @@ use mathlib.Core.Bool.{true, _&&_}
 use Prim.Native.Nat.{_≤_}
 use lib.Dec.{leb}
 use borrow.Author.Tests.{leb-true}
-use Rattle.guide.specs.Sizes.{baseMost, seriesMost}
-use Rattle.guide.specs.Soundness.{sound}
-use Rattle.guide.proofs.Booleans.{both}
+use Rattle.rules.specs.Sizes.{baseMost, seriesMost}
+use Rattle.rules.specs.Soundness.{sound}
+use Rattle.rules.proofs.Booleans.{both}
 use Rattle.chart.specs.declared.Chart.{Chart}
 use Rattle.chart.specs.Chart.{stateOf}
 use Rattle.chart.specs.Soundness.{unusedHoldZero, placesSound, soundChart}

@@ -1,5 +1,5 @@
 -- The chart and the state that it stands for.
-use mathlib.Core.Path.{_≡_, refl, sym, ap, _∙_}
+use mathlib.Core.Path.{_≡_, refl, sym}
 use mathlib.Core.Bool.{true}
 use mathlib.Core.List.{List, [], _∷_, _++_}
 use Prim.Native.Nat.{ℕ, _+_, _-_, _<_, _≤_}
@@ -7,10 +7,10 @@ use native.Mathlib.Omega.{arith}
 use lib.ListN.{length, take, set, length-append}
 use lib.Seq.{length-take-le}
 use lib.IntN.{ℤ, pos}
-use Rattle.guide.specs.Sizes.{baseMost, seriesMost}
-use Rattle.guide.specs.LastWords.{butLast}
-use Rattle.guide.specs.State.{State, state, fresh, addWord, replaceLast}
-use Rattle.guide.proofs.Soundness.{sound-facts, not-free-facts}
+use Rattle.rules.specs.Sizes.{baseMost, seriesMost}
+use Rattle.rules.specs.LastWords.{butLast}
+use Rattle.rules.specs.State.{State, state, fresh, addWord, replaceLast}
+use Rattle.rules.proofs.Soundness.{sound-facts, not-free-facts}
 use Rattle.chart.specs.Pad.{pad}
 use Rattle.chart.specs.Chart.{stateOf, chartOf, freshChart}
 use Rattle.chart.specs.declared.Chart.{Chart}
@@ -77,6 +77,7 @@ module _ (c : Chart) (h : Within c) where
 -- ---- a sound chart
 
 pub record Given (c : Chart) : Type 0 where
+  pub is-sound : soundChart c ≡ true
   pub facts : SoundChart c
   pub within : Within c
 
@@ -84,6 +85,7 @@ pub given : (c : Chart) → length (c .base) ≡ baseMost → length (c .series)
 given c b s t =
     let facts = sound-chart-facts c t in
     record {
+      is-sound = t;
       facts = facts;
       within = record { base-places = b; series-places = s; base-few = facts .places .base-few; series-few = facts .places .series-few };
     }

@@ -2,36 +2,43 @@
 use mathlib.Core.Path.{_≡_, sym, _∙_}
 use mathlib.Core.Bool.{true, false, _&&_}
 use mathlib.Core.List.{List}
-use Prim.Native.Nat.{ℕ, _+_, _<_, _≤_, min}
+use Prim.Native.Nat.{ℕ, suc, _+_, _<_, _≤_, min}
 use native.Mathlib.Omega.{arith}
 use native.Mathlib.Numerals.{add-one}
 use lib.ListN.{length}
 use lib.Dec.{leb}
 use lib.IntN.{ℤ}
 use borrow.Author.Tests.{leb-true, leb-false, le-leb, lt-leb}
-use Rattle.guide.specs.Sizes.{baseWanted, baseMost}
-use Rattle.guide.specs.LastWords.{lastWords}
-use Rattle.guide.specs.Rejection.{rejection}
-use Rattle.guide.specs.Standing.{numberStanding, fifteenStand}
-use Rattle.guide.specs.Tail.{shortestTail}
-use Rattle.guide.proofs.Booleans.{both, by-test}
-use Rattle.guide.proofs.Tail.{searchFrom, search-ends, search-goes-on, search-over}
+use Rattle.rules.specs.Sizes.{baseWanted, baseMost}
+use Rattle.rules.specs.LastWords.{lastWords}
+use Rattle.rules.specs.Rejection.{rejection}
+use Rattle.rules.specs.Standing.{numberStanding, fifteenStand}
+use Rattle.rules.specs.Tail.{shortestTail}
+use Rattle.rules.proofs.Booleans.{both, by-test}
+use Rattle.rules.proofs.Tail.{searchFrom, search-ends, search-goes-on, search-over}
 use Rattle.chart.specs.Rejection.{IsRejection}
-use Rattle.chart.specs.Tail.{noneStands, tailRejection}
+use Rattle.chart.specs.Tail.{noneStands, tailRejection, HasTail}
 use Rattle.chart.specs.declared.rejection.RejectionAnswer.{RejectionAnswer}
 use Rattle.chart.proofs.Rounds.{left-standing}
 
 -- the loop goes on while k is at most two numbers, and ends when it is above one of them
-pub within-both : {k m n : ℕ} → (leb k m && leb k n) ≡ true → (k ≤ m) × (k ≤ n)
-within-both {k = k} {m = m} {n = n} t =
-    let parts = both (leb k m) (leb k n) t in
-    (leb-true k m (parts .0), leb-true k n (parts .1))
+pub has-tail : (base series : List ℤ) {k : ℕ} → (leb k (length base + length series) && leb k baseMost) ≡ true → HasTail base series k
+has-tail base series {k} t =
+    let all = length base + length series in
+    let parts = both (leb k all) (leb k baseMost) t in
+    record { within = leb-true k all (parts .0); most = leb-true k baseMost (parts .1) }
 
 pub past-one : (k m n : ℕ) → (leb k m && leb k n) ≡ false → min m n < k
 past-one k m n f =
     by-test (leb k m)
     (λ t. let more = leb-false k n (rw t at f) in omega arith)
     (λ t. let more = leb-false k m t in omega arith)
+
+-- the search from k on gives the answer
+pub record Searching (kind : ℕ) (words : List ℤ) (k : ℕ) : Type 0 where
+  pub least : baseWanted ≤ k
+  pub most : k ≤ suc baseMost
+  pub search : searchFrom kind words k ≡ shortestTail kind words
 
 -- a try: a is what rejection leaves of the last k words, and the search from k on gives the answer
 pub record Tried (kind : ℕ) (words : List ℤ) (k : ℕ) (a : RejectionAnswer) : Type 0 where

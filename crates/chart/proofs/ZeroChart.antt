@@ -3,10 +3,10 @@
 use mathlib.Core.Path.{_≡_, refl}
 use mathlib.Core.Bool.{false}
 use mathlib.Core.List.{[]}
-use Rattle.guide.specs.AllOf.{allOf}
-use Rattle.guide.specs.Kind.{isKind}
-use Rattle.guide.specs.State.{fresh}
-use Rattle.guide.specs.Soundness.{wordsSound, sound}
+use Rattle.rules.specs.AllOf.{allOf}
+use Rattle.rules.specs.Kind.{isKind}
+use Rattle.rules.specs.State.{fresh}
+use Rattle.rules.specs.Soundness.{wordsSound, sound}
 use Rattle.chart.specs.Pad.{pad}
 use Rattle.chart.specs.Chart.{stateOf, chartOf, freshChart, zeroChart}
 use Rattle.chart.specs.Soundness.{isZero, unusedHoldZero, placesSound, soundChart}

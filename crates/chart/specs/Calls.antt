@@ -2,11 +2,11 @@
 use mathlib.Core.Path.{_≡_}
 use mathlib.Core.Bool.{true, false}
 use mathlib.Core.List.{List, [], _∷_}
-use Prim.Native.Nat.{ℕ, zero, suc}
+use Prim.Native.Nat.{ℕ}
 use lib.IntN.{ℤ}
-use Rattle.guide.specs.Choice.{require, choose}
-use Rattle.guide.specs.Word as word
-use Rattle.guide.specs.Machine.{Call, Answer, judged, reanalysed, corrected, renewed, refused, wordFor, step}
+use Rattle.rules.specs.Outcome.{Outcome, unlessNumber}
+use Rattle.rules.specs.Choice.{choose}
+use Rattle.rules.specs.Machine.{Call, Answer, Next, judged, reanalysed, corrected, renewed, refused, wordFor, step}
 use Rattle.chart.specs.declared.Chart.{Chart}
 use Rattle.chart.specs.declared.PostAnswer.{PostAnswer}
 use Rattle.chart.specs.declared.PostAnswer.the-variants as post
@@ -33,16 +33,16 @@ pub record Gives (c : Chart) (call : Call) (next : Chart) (answer : Answer) : Ty
   pub chart : next ≡ nextChart c call
   pub says : answer ≡ answerTo c call
 
--- ---- what parts of the calls give: `post_refusal`, `status_refusal`, `renewal_refusal`, `word_unless`
+-- ---- what parts of the calls give
 
--- 14 first, and then the number. The number is the refusal of the machine that comes first (`refusalFor`), or 0
-unfoldable pub refusalOn : Chart → ℕ → ℕ
-refusalOn c number = require (soundChart c) 14 number
+-- what a call that is not refused does: the chart stands for the next state, and the answer is the machine's
+pub record Does (next : Next) (c : Chart) (answer : Answer) : Type 0 where
+  pub chart : c ≡ chartOf (next .state)
+  pub says : answer ≡ next .answer
 
 -- a number that is not 0 refuses the call. If it is 0, the call's reading decides
-unfoldable pub wordUnless : ℕ → ℕ → ℕ → ℤ → ℤ → ℤ → word.Formed
-wordUnless zero chartKind kind a b c = wordFor chartKind kind a b c
-wordUnless (suc n) chartKind kind a b c = word.refused (suc n)
+unfoldable pub wordUnless : ℕ → ℕ → ℕ → ℤ → ℤ → ℤ → Outcome ℤ
+wordUnless number chartKind kind a b c = unlessNumber number (wordFor chartKind kind a b c)
 
 -- ---- what the cases of each call's answer say
 

@@ -5,9 +5,10 @@ use mathlib.Core.List.{List}
 use Prim.Native.Nat.{ℕ}
 use lib.ListN.{length, take, replicate}
 use lib.IntN.{ℤ, pos}
-use Rattle.guide.specs.Sizes.{baseMost, seriesMost}
-use Rattle.guide.specs.State.{State, state, limitsFor}
-use Rattle.guide.specs.Building.{BuildingAnswer, built, refused, building}
+use Rattle.rules.specs.Outcome.{Outcome, given, refused}
+use Rattle.rules.specs.Sizes.{baseMost, seriesMost}
+use Rattle.rules.specs.State.{State, state, limitsFor}
+use Rattle.rules.specs.Building.{BuiltState, building}
 use Rattle.limits.specs.declared.Limits.{Limits}
 use Rattle.limits.specs.Sums.{limitsSay, Bounded}
 use Rattle.chart.specs.declared.Chart.{Chart}
@@ -74,13 +75,13 @@ abbrev pub notBuilt : ℕ → Built
 notBuilt n = record { chart = zeroChart; answer = Refused n }
 
 -- what the cases of building's answer say, for the chart c that comes with the answer
-unfoldable pub buildSays : Chart → BuildAnswer → BuildingAnswer
-buildSays c (Done rounds removed) = built (stateOf c) rounds removed
+unfoldable pub buildSays : Chart → BuildAnswer → Outcome BuiltState
+buildSays c (Done rounds removed) = given (record { state = stateOf c; rounds = rounds; removed = removed })
 buildSays c (Refused n) = refused n
 
 -- the chart that goes with building's answer
-unfoldable pub chartAfter : BuildingAnswer → Chart
-chartAfter (built s rounds removed) = chartOf s
+unfoldable pub chartAfter : Outcome BuiltState → Chart
+chartAfter (given b) = chartOf (b .state)
 chartAfter (refused n) = zeroChart
 
 -- the contract of building: its chart and its answer are the paper's

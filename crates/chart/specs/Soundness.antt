@@ -1,13 +1,14 @@
 -- When the program's chart is sound: document 01, "Stored form". A program can hand in any value of the type.
-use mathlib.Core.Bool.{Bool, _&&_}
+use mathlib.Core.Path.{_≡_}
+use mathlib.Core.Bool.{Bool, true, _&&_}
 use mathlib.Core.List.{List}
-use Prim.Native.Nat.{ℕ}
+use Prim.Native.Nat.{ℕ, _<_, _≤_}
 use lib.ListN.{drop}
 use lib.Dec.{leb, eqb}
 use lib.IntN.{ℤ, natAbs}
-use Rattle.guide.specs.Sizes.{baseMost, seriesMost}
-use Rattle.guide.specs.AllOf.{allOf}
-use Rattle.guide.specs.Soundness.{sound}
+use Rattle.rules.specs.Sizes.{baseMost, seriesMost}
+use Rattle.rules.specs.AllOf.{allOf}
+use Rattle.rules.specs.Soundness.{sound}
 use Rattle.chart.specs.declared.Chart.{Chart}
 use Rattle.chart.specs.Chart.{stateOf}
 
@@ -29,3 +30,13 @@ placesSound c =
 -- the places are sound, and so is the state that the chart stands for
 unfoldable pub soundChart : Chart → Bool
 soundChart c = placesSound c && sound (stateOf c)
+
+-- a sound chart that a word can be added to
+pub record HasRoom (c : Chart) : Type 0 where
+  pub sound : soundChart c ≡ true
+  pub room : c .«series_len» < seriesMost
+
+-- a sound chart that has a last word
+pub record HasLast (c : Chart) : Type 0 where
+  pub sound : soundChart c ≡ true
+  pub some : 1 ≤ c .«series_len»

@@ -1,11 +1,9 @@
-// The chart of document 01: building one, and the calls that take a chart and hand it back.
-//
-// Building refuses, in this order: 1 a kind that is not 1..3, 2 a number of words that is not 15..32, 3 a word out of range, 16 fewer
-// than 15 words stand after rejection. A refused build gives the chart of zeros.
+// The chart of document 01: the type, and the calls that take a chart and hand it back. `building` makes one.
 //
 // Every call first refuses, with 14, a chart that is not sound, whatever its lengths are. Then it refuses, in this order: post 8 (status
 // not 0), 9 (366 words in the series), 4 (a reading of another kind), 5, 6, 7; reanalyse 10 (status not 1), 4, 5, 6, 7; correct 11 (status
 // not 2); renew 8, 12 (base and series below 15), 16 (no tail will do). A refused call gives back the very chart that it got.
+mod building;
 pub mod rejection;
 pub mod soundness;
 mod tail;
@@ -16,31 +14,23 @@ use judging::verdict::verdict;
 use limits::Limits;
 use limits::limits_of;
 use rejection::RejectionAnswer;
-use rejection::reject;
 use tail::reject_tail;
 use words::Formed;
 use words::word_for;
 ghost use mathlib.Core.Path.{_≡_};
 ghost use mathlib.Core.Bool.{true};
 ghost use mathlib.Core.List.{_++_};
-ghost use Prim.Native.Nat.{_≤_, _<_};
-ghost use lib.ListN.{length};
-ghost use lib.Dec.{eqb};
-ghost use lib.IntN.{pos};
-ghost use Rattle.guide.specs.Choice.{require};
-ghost use Rattle.guide.specs.Sizes.{baseMost, seriesMost};
-ghost use Rattle.guide.specs.State.{limitsFor, addWord, replaceLast};
-ghost use Rattle.guide.specs.Building.{isBuildCount, buildRefusal};
-ghost use Rattle.guide.specs.Verdict as verdicts;
-ghost use Rattle.guide.specs.Reanalysis as reanalyses;
-ghost use Rattle.guide.specs.Machine as machine;
+ghost use Rattle.rules.specs.Choice.{require};
+ghost use Rattle.rules.specs.State.{limitsFor, addWord, replaceLast};
+ghost use Rattle.rules.specs.Verdict as verdicts;
+ghost use Rattle.rules.specs.Reanalysis as reanalyses;
+ghost use Rattle.rules.specs.Machine as machine;
 ghost use Rattle.words.specs.Formed.{formedSays};
-ghost use Rattle.chart.specs.Pad.{pad};
-ghost use Rattle.chart.specs.Chart.{stateOf, chartOf, withStatus, zeroChart, freshChart, LimitsFor, notBuilt, Builds};
+ghost use Rattle.chart.specs.Chart.{stateOf, chartOf, withStatus, zeroChart, freshChart, LimitsFor};
 ghost use Rattle.chart.specs.Rejection.{IsRejection};
 ghost use Rattle.chart.specs.Tail.{tailRejection};
-ghost use Rattle.chart.specs.Soundness.{soundChart};
-ghost use Rattle.chart.specs.Calls.{Gives, postSays, reanalysisSays, correctionSays, renewalSays, refusalOn, wordUnless};
+ghost use Rattle.chart.specs.Soundness.{soundChart, HasRoom, HasLast};
+ghost use Rattle.chart.specs.Calls.{Gives, Does, postSays, reanalysisSays, correctionSays, renewalSays, wordUnless};
 
 pub struct Chart {
     pub kind: u16,
@@ -119,29 +109,7 @@ impl Chart {
     pub const SERIES_MOST: usize = 366;
 
     // Lines are whole numbers of 256ths.
-    pub const LINE_PARTS: usize = 256;
-
-    pub fn build(kind: u16, words: &[i16]) -> Built
-        ensures { λ r. ⌜ Builds kind (now (words .entry)) r ⌝ }
-    {
-        let number = build_refusal(kind, words);
-        if number != 0 {
-            return not_built(number);
-        }
-        let r = reject(kind, padded(words), words.len());
-        let left = r.left;
-        if left.n < Chart::BASE_WANTED {
-            return not_built(16);
-        }
-        let base = left.words;
-        Built {
-            chart: fresh_chart(kind, base, left.n),
-            answer: BuildAnswer::Done {
-                rounds: r.rounds,
-                removed: r.removed,
-            },
-        }
-    }
+    pub const LINE_PARTS: usize = limits::LINE_PARTS;
 
     pub fn post(mut self, kind: u16, a: i64, b: i64, c: i64) -> Posted
         ensures { λ r. ⌜ Gives self (machine.post kind a b c) (r .chart) (postSays (r .answer)) ⌝ }
@@ -193,25 +161,13 @@ impl Chart {
 
     // ---- the calls on a chart that is known to be sound, for example one just read
 
-    // Judges the word, adds it to the series, and answers word and verdict.
     pub fn post_sound(mut self, kind: u16, a: i64, b: i64, c: i64) -> Posted
         requires { ⌜ soundChart self ≡ true ⌝ }
         ensures { λ r. ⌜ Gives self (machine.post kind a b c) (r .chart) (postSays (r .answer)) ⌝ }
     {
         let formed = word_unless(self.post_refusal(), self.kind, kind, a, b, c);
         match formed {
-            Formed::Word(w) => {
-                let v = self.verdict_on(w);
-                self = self.add_word(w);
-                self = self.set_status(status_for(v), v);
-                Posted {
-                    chart: self,
-                    answer: PostAnswer::Judged {
-                        word: w,
-                        verdict: v,
-                    },
-                }
-            }
+            Formed::Word(w) => self.post_word(w),
             Formed::Refused(n) => Posted {
                 chart: self,
                 answer: PostAnswer::Refused(n),
@@ -219,29 +175,14 @@ impl Chart {
         }
     }
 
-    // A word that passes replaces the last of the series, and the chart is free again. If the word fails, the series does not change, and a
-    // correction is due.
     pub fn reanalyse_sound(mut self, kind: u16, a: i64, b: i64, c: i64) -> Reanalysed
         requires { ⌜ soundChart self ≡ true ⌝ }
         ensures { λ r. ⌜ Gives self (machine.reanalysis kind a b c) (r .chart) (reanalysisSays (r .answer)) ⌝ }
     {
-        let formed = word_unless(self.status_refusal(1, 10), self.kind, kind, a, b, c);
+        let number = refuse_unless(self.status == 1, 10, 0);
+        let formed = word_unless(number, self.kind, kind, a, b, c);
         match formed {
-            Formed::Word(w) => {
-                if self.passes_for_last(w) {
-                    self = self.replace_last(w);
-                    self = self.set_status(0, 0);
-                    return Reanalysed {
-                        chart: self,
-                        answer: ReanalysisAnswer::Passed(w),
-                    };
-                }
-                self = self.set_status(2, self.open_verdict);
-                Reanalysed {
-                    chart: self,
-                    answer: ReanalysisAnswer::Failed(w),
-                }
-            }
+            Formed::Word(w) => self.reanalyse_word(w),
             Formed::Refused(n) => Reanalysed {
                 chart: self,
                 answer: ReanalysisAnswer::Refused(n),
@@ -254,7 +195,7 @@ impl Chart {
         requires { ⌜ soundChart self ≡ true ⌝ }
         ensures { λ r. ⌜ Gives self machine.correction (r .chart) (correctionSays (r .answer)) ⌝ }
     {
-        let number = self.status_refusal(2, 11);
+        let number = refuse_unless(self.status == 2, 11, 0);
         if number != 0 {
             return Corrected {
                 chart: self,
@@ -301,50 +242,67 @@ impl Chart {
 
     // ---- refusals of a sound chart that come first, before the call's reading and before rejection: the number, or 0 if none applies
 
-    // The number given, if the status is not the one wanted.
-    fn status_refusal(self, wanted: u16, number: u16) -> u16
-        requires { ⌜ soundChart self ≡ true ⌝ }
-        ensures { λ r. ⌜ r ≡ refusalOn self (require (eqb (self .status) wanted) number 0) ⌝ }
-    {
-        if self.status != wanted {
-            return number;
-        }
-        0
-    }
-
     fn post_refusal(self) -> u16
         requires { ⌜ soundChart self ≡ true ⌝ }
-        ensures { λ r. ⌜ r ≡ refusalOn self (machine.postRefusal (stateOf self)) ⌝ }
+        ensures { λ r. ⌜ r ≡ machine.postRefusal (stateOf self) ⌝ }
     {
-        let number = self.status_refusal(0, 8);
-        if number != 0 {
-            return number;
-        }
-        if Chart::SERIES_MOST <= self.series_len {
-            return 9;
-        }
-        0
+        let room = self.series_len < Chart::SERIES_MOST;
+        refuse_unless(self.status == 0, 8, refuse_unless(room, 9, 0))
     }
 
     fn renewal_refusal(self) -> u16
         requires { ⌜ soundChart self ≡ true ⌝ }
-        ensures { λ r. ⌜ r ≡ refusalOn self (machine.renewalRefusal (stateOf self)) ⌝ }
+        ensures { λ r. ⌜ r ≡ machine.renewalRefusal (stateOf self) ⌝ }
     {
-        let number = self.status_refusal(0, 8);
-        if number != 0 {
-            return number;
+        let enough = Chart::BASE_WANTED <= self.base_len + self.series_len;
+        refuse_unless(self.status == 0, 8, refuse_unless(enough, 12, 0))
+    }
+
+    // ---- what a post and a reanalysis do with the word of their reading
+
+    // Judges the word, adds it to the series, and answers word and verdict.
+    fn post_word(mut self, w: i16) -> Posted
+        requires { ⌜ HasRoom self ⌝ }
+        ensures { λ r. ⌜ Does (machine.posting (stateOf self) w) (r .chart) (postSays (r .answer)) ⌝ }
+    {
+        let v = self.verdict_on(w);
+        self = self.add_word(w);
+        self = self.set_status(status_for(v), v);
+        Posted {
+            chart: self,
+            answer: PostAnswer::Judged {
+                word: w,
+                verdict: v,
+            },
         }
-        if self.base_len + self.series_len < Chart::BASE_WANTED {
-            return 12;
+    }
+
+    // A word that passes replaces the last of the series, and the chart is free again. If the word fails, the series does not change, and a
+    // correction is due.
+    fn reanalyse_word(mut self, w: i16) -> Reanalysed
+        requires { ⌜ HasLast self ⌝ }
+        ensures { λ r. ⌜ Does (machine.reanalysing (stateOf self) w) (r .chart) (reanalysisSays (r .answer)) ⌝ }
+    {
+        if self.passes_for_last(w) {
+            self = self.replace_last(w);
+            self = self.set_status(0, 0);
+            return Reanalysed {
+                chart: self,
+                answer: ReanalysisAnswer::Passed(w),
+            };
         }
-        0
+        self = self.set_status(2, self.open_verdict);
+        Reanalysed {
+            chart: self,
+            answer: ReanalysisAnswer::Failed(w),
+        }
     }
 
     // ---- judging on a sound chart
 
     // The verdict that posting w would give.
     fn verdict_on(self, w: i16) -> u16
-        requires { ⌜ (soundChart self ≡ true) × (self .«series_len» < seriesMost) ⌝ }
+        requires { ⌜ HasRoom self ⌝ }
         ensures { λ r. ⌜ r ≡ verdicts.verdict (limitsFor (stateOf self)) (addWord (stateOf self) w .series) ⌝ }
     {
         let l = self.limits();
@@ -378,7 +336,7 @@ impl Chart {
     // ---- what a call changes
 
     fn add_word(mut self, w: i16) -> Chart
-        requires { ⌜ (soundChart self ≡ true) × (self .«series_len» < seriesMost) ⌝ }
+        requires { ⌜ HasRoom self ⌝ }
         ensures { λ r. ⌜ r ≡ chartOf (addWord (stateOf self) w) ⌝ }
     {
         let m = self.series_len;
@@ -388,7 +346,7 @@ impl Chart {
     }
 
     fn replace_last(mut self, w: i16) -> Chart
-        requires { ⌜ (soundChart self ≡ true) × (1 ≤ self .«series_len») ⌝ }
+        requires { ⌜ HasLast self ⌝ }
         ensures { λ r. ⌜ r ≡ chartOf (replaceLast (stateOf self) w) ⌝ }
     {
         let last = self.series_len - 1;
@@ -417,52 +375,14 @@ impl Chart {
     }
 }
 
-// A refused build.
-fn not_built(number: u16) -> Built
-    ensures { λ r. ⌜ r ≡ notBuilt number ⌝ }
+// The number, if the condition does not hold. If it holds, the rest decides.
+fn refuse_unless(holds: bool, number: u16, rest: u16) -> u16
+    ensures { λ r. ⌜ r ≡ require holds number rest ⌝ }
 {
-    Built {
-        chart: zero_chart(),
-        answer: BuildAnswer::Refused(number),
+    if holds {
+        return rest;
     }
-}
-
-// The number of a refusal that kind and words decide before rejection, or 0 if none applies.
-fn build_refusal(kind: u16, words: &[i16]) -> u16
-    ensures { λ r. ⌜ r ≡ buildRefusal kind (now (words .entry)) ⌝ }
-{
-    if !words::is_kind(kind) {
-        return 1;
-    }
-    if !is_build_count(words) {
-        return 2;
-    }
-    if !words::all_in_range(kind, words) {
-        return 3;
-    }
-    0
-}
-
-fn is_build_count(words: &[i16]) -> bool
-    ensures { λ r. ⌜ r ≡ isBuildCount (now (words .entry)) ⌝ }
-{
-    let n = words.len();
-    (Chart::BASE_WANTED <= n) & (n <= Chart::BASE_MOST)
-}
-
-// The words at the front of an array for a base, with 0 in the unused places.
-fn padded(words: &[i16]) -> [i16; Chart::BASE_MOST]
-    requires { ⌜ length (now words) ≤ baseMost ⌝ }
-    ensures { λ r. ⌜ r ≡ pad (pos 0) baseMost (now (words .entry)) ⌝ }
-{
-    let mut base = [0i16; Chart::BASE_MOST];
-    let mut i: usize = 0;
-    while i < words.len() {
-        let w = words[i];
-        base[i] = w;
-        i += 1;
-    }
-    base
+    number
 }
 
 // The word of a reading for a chart, or a refusal. A number that is not 0 is the refusal. If it is 0, the reading decides: 4, 5, 6, 7.

@@ -13,13 +13,14 @@ ghost use mathlib.Core.Bool.{false};
 ghost use mathlib.Core.List.{map};
 ghost use Prim.Native.Nat.{_≤_};
 ghost use lib.ListN.{take};
-ghost use Rattle.guide.specs.Sizes.{baseMost};
-ghost use Rattle.guide.specs.Limits.{beyondControl};
-ghost use Rattle.guide.specs.Rejection.{rejection};
-ghost use Rattle.guide.specs.Carried.{lessWords};
-ghost use Rattle.limits.specs.Sums.{sumsSay, limitsSay, AreSums, Bounded, Removable};
+ghost use Rattle.rules.specs.Sizes.{baseMost};
+ghost use Rattle.rules.specs.Limits.{beyondControl};
+ghost use Rattle.rules.specs.Rejection.{rejection};
+ghost use Rattle.rules.specs.Carried.{lessWords};
+ghost use Rattle.limits.specs.Sums.{sumsSay, limitsSay, Bounded};
 ghost use Rattle.chart.specs.Pad.{pad};
-ghost use Rattle.chart.specs.Rejection.{withoutMarked, marked, Holds, IsRejection, givenSays, CanRemove, HandsOn};
+ghost use Rattle.chart.specs.Rejection.{withoutMarked, marked, HoldsWords, IsRejection, givenSays, CanRemove};
+ghost use Rattle.chart.specs.Rejection.{WithOwnSums, CanTake, HandsOn};
 
 // The first n of 32 places hold words.
 pub struct Standing {
@@ -51,7 +52,7 @@ pub fn reject(kind: u16, words: [i16; Chart::BASE_MOST], n: usize) -> RejectionA
 
 // Rejection calls itself on the words left, until a round removes nothing. Each call is given n, T and Q of the words.
 fn reject_given(kind: u16, words: [i16; Chart::BASE_MOST], n: usize, sums: Sums) -> RejectionAnswer
-    requires { ⌜ (n ≤ baseMost) × AreSums (take n words) sums ⌝ }
+    requires { ⌜ WithOwnSums n words sums ⌝ }
     ensures { λ r. ⌜ IsRejection (rejection kind (take n words)) r ⌝ }
 {
     let next = round(kind, words, n, sums);
@@ -107,7 +108,7 @@ fn without_marked(
     marks: [bool; Chart::BASE_MOST],
 ) -> Standing
     requires { ⌜ n ≤ baseMost ⌝ }
-    ensures { λ r. ⌜ Holds (withoutMarked (take n marks) (take n words)) r ⌝ }
+    ensures { λ r. ⌜ HoldsWords (withoutMarked (take n marks) (take n words)) r ⌝ }
 {
     let mut left = [0i16; Chart::BASE_MOST];
     let mut kept: usize = 0;
@@ -133,7 +134,7 @@ fn less_marked(
     n: usize,
     marks: [bool; Chart::BASE_MOST],
 ) -> Sums
-    requires { ⌜ (n ≤ baseMost) × Removable (marked (take n marks) (take n words)) sums ⌝ }
+    requires { ⌜ CanTake n marks words sums ⌝ }
     ensures { λ r. ⌜ sumsSay r ≡ lessWords (sumsSay sums) (marked (take n marks) (take n words)) ⌝ }
 {
     let mut less = sums;

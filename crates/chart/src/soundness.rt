@@ -1,16 +1,16 @@
 // Whether a chart is sound: document 01, "Stored form". A program can hand in any value of the type. So the code tests that the lengths lie
 // within the arrays before it takes the words of base and series.
 use crate::Chart;
-use judging::standing::limits_hold;
-use judging::standing::status_fits;
+use judging::soundness::limits_hold;
+use judging::soundness::status_fits;
 use limits::limits_of;
 use words::all_in_range;
 ghost use mathlib.Core.Path.{_≡_};
 ghost use Prim.Native.Nat.{_≤_};
 ghost use lib.ListN.{length};
-ghost use Rattle.guide.specs.Sizes.{baseMost, seriesMost};
-ghost use Rattle.guide.specs.Soundness.{areCounts, wordsSound, sound};
-ghost use Rattle.guide.specs.State.{state};
+ghost use Rattle.rules.specs.Sizes.{baseMost, seriesMost};
+ghost use Rattle.rules.specs.Soundness.{areCounts, wordsSound, sound};
+ghost use Rattle.rules.specs.State.{state};
 ghost use Rattle.chart.specs.Chart.{stateOf};
 ghost use Rattle.chart.specs.Soundness.{unusedHoldZero, placesSound, soundChart};
 

@@ -5,14 +5,14 @@ use crate::rejection::Standing;
 use crate::rejection::reject;
 ghost use mathlib.Core.Path.{_≡_};
 ghost use mathlib.Core.List.{_++_};
-ghost use Prim.Native.Nat.{_+_, _≤_, _<_};
+ghost use Prim.Native.Nat.{_+_, _<_};
 ghost use lib.ListN.{length, getD};
 ghost use lib.IntN.{pos};
-ghost use Rattle.guide.specs.Sizes.{baseMost};
-ghost use Rattle.guide.specs.LastWords.{lastWords};
+ghost use Rattle.rules.specs.Sizes.{baseMost};
+ghost use Rattle.rules.specs.LastWords.{lastWords};
 ghost use Rattle.chart.specs.Pad.{pad};
 ghost use Rattle.chart.specs.Rejection.{IsRejection};
-ghost use Rattle.chart.specs.Tail.{noneStands, tailRejection};
+ghost use Rattle.chart.specs.Tail.{noneStands, tailRejection, HasTail};
 
 // Tries the last 15 words of base and series, then the last 16, up to 32 or all there are. The answer is that of the first tail of which at
 // least 15 words stand. If no tail will do, no word stands.
@@ -49,7 +49,7 @@ fn no_tail() -> RejectionAnswer
 
 // The last k words of the two slices, one after the other, at the front of an array for a base.
 fn last_of_both(base: &[i16], series: &[i16], k: usize) -> [i16; Chart::BASE_MOST]
-    requires { ⌜ (k ≤ length (now base) + length (now series)) × (k ≤ baseMost) ⌝ }
+    requires { ⌜ HasTail (now base) (now series) k ⌝ }
     ensures { λ r. ⌜ r ≡ pad (pos 0) baseMost (lastWords k (now (base .entry) ++ now (series .entry))) ⌝ }
 {
     let first = base.len() + series.len() - k;

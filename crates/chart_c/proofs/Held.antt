@@ -1,82 +1,60 @@
--- Laws of the chart in a lent buffer: what the number of `held_in` means, and that a chart that was read is sound.
+-- Laws of the chart in a lent buffer: what the number of a chart in hand means, and that a chart that was read is sound.
 use mathlib.Core.Path.{_≡_, refl, sym, ap, _∙_}
 use mathlib.Core.Bool.{Bool, true, false}
 use mathlib.Core.List.{List}
-use Prim.Native.Nat.{ℕ}
+use Prim.Native.Nat.{ℕ, _≤_}
 use native.Mathlib.Omega.{arith}
 use lib.ListN.{length, take}
 use lib.Dec.{leb}
-use Rattle.guide.specs.Choice.{require}
-use Rattle.guide.specs.State.{State}
-use Rattle.guide.specs.Soundness.{sound}
-use Rattle.guide.specs.Reading.{ReadingAnswer, taken, refused, isForm, heldIn, reading}
-use Rattle.guide.proofs.Booleans.{by-test}
-use Rattle.guide.proofs.Reading.{read-sound}
+use Rattle.rules.specs.Outcome.{Outcome, given, refused, andThen}
+use Rattle.rules.specs.Choice.{require}
+use Rattle.rules.specs.State.{State}
+use Rattle.rules.specs.Soundness.{sound}
+use Rattle.rules.specs.Lists.{bytesStart}
+use Rattle.rules.proofs.Outcome.{given-not-refused}
+use Rattle.rules.proofs.Lists.{start-of-reading}
 use Rattle.chart.specs.declared.Chart.{Chart}
 use Rattle.chart.specs.Chart.{stateOf, chartOf}
 use Rattle.chart.specs.Soundness.{soundChart}
 use Rattle.chart.proofs.State.{state-of-chart}
 use Rattle.chart.proofs.Runs.{sound-chart-of}
-use Rattle.store.specs.Store.{chartAfterReading, readSays, IsRead}
-use Rattle.store.specs.declared.ReadAnswer.the-variants as read
-use Rattle.store.specs.declared.ReadChart.{ReadChart}
-use Rattle.chart_c.specs.declared.forms.Held.{Held}
-use Rattle.chart_c.specs.Outcome.{Outcome, done, declined, numberOf, andThen}
-use Rattle.chart_c.specs.Forms.{readingOutcome, readingFront, IsHeld}
+use Rattle.store.specs.declared.held.Held.{Held}
+use Rattle.store.specs.HeldChart.{chartOfStart, numberOfStart, IsHeld}
+use Rattle.store.proofs.HeldChart.{reading-number}
+use Rattle.chart_c.specs.Lent.{answeredNumber}
+use Rattle.chart_c.specs.Forms.{frontStart}
 
--- ---- what `held_in` gives for the two answers of reading
+-- ---- a start from bytes: no number of a refusal is 0, and its state is sound
 
-module _ (a : ReadingAnswer) (c : Chart) where
-  pub held-done : IsRead a (record { chart = c; answer = read.Done }) → IsHeld a (record { chart = c; number = 0 })
-  unfolding readSays readingOutcome numberOf
-  held-done r = record { chart = r .chart; number = ap (λ (x : ReadingAnswer). numberOf (readingOutcome x)) (r .says) }
+pub record FromBytes (a : Outcome State) : Type 0 where
+  pub some : (n : ℕ) → a ≡ refused n → 1 ≤ n
+  pub stays-sound : (s : State) → a ≡ given s → sound s ≡ true
 
-  pub held-declined : (n : ℕ) → IsRead a (record { chart = c; answer = read.Refused n }) → IsHeld a (record { chart = c; number = n })
-  unfolding readSays readingOutcome numberOf
-  held-declined n r = record { chart = r .chart; number = ap (λ (x : ReadingAnswer). numberOf (readingOutcome x)) (r .says) }
+pub from-bytes : (bytes : List ℕ) → FromBytes (bytesStart bytes)
+from-bytes bytes = record { some = reading-number bytes; stays-sound = λ s e. start-of-reading bytes s e .is-sound }
 
--- ---- an answer of reading: no number of a refusal is 0, and a state that is taken is sound
-
-abbrev NotZero : ReadingAnswer → Type 0
-NotZero (taken s) = Unit {0}
-NotZero (refused n) = n ≡ 0 → ⊥
-
-pub record IsReading (a : ReadingAnswer) : Type 0 where
-  pub not-zero : NotZero a
-  pub stays-sound : (s : State) → a ≡ taken s → sound s ≡ true
-
-not-zero-by : (form whole : Bool) (s : State) → NotZero (require form (refused 13) (require whole (refused 14) (taken s)))
-not-zero-by true true s = tt
-not-zero-by true false s = λ z. omega arith
-not-zero-by false whole s = λ z. omega arith
-
-pub is-reading : (bytes : List ℕ) → IsReading (reading bytes)
-unfolding reading
-is-reading bytes =
-    record { not-zero = not-zero-by (isForm bytes) (sound (heldIn bytes)) (heldIn bytes); stays-sound = read-sound bytes }
-
-front-by : (fits : Bool) (a : ReadingAnswer) → IsReading a → IsReading (require fits (refused 13) a)
+front-by : (fits : Bool) (a : Outcome State) → FromBytes a → FromBytes (require fits (refused 13) a)
 front-by true a h = h
 front-by false a h =
-    record { not-zero = λ z. omega arith; stays-sound = λ s e. let z : _≡_ {A = ℕ} 0 1 = cc in absurd (omega arith) }
+    record { some = λ n e. let same : _≡_ {A = ℕ} 13 n = cc in omega arith; stays-sound = λ s e. given-not-refused (sym e) }
 
-pub is-front-reading : (buffer : List ℕ) (size : ℕ) → IsReading (readingFront buffer size)
-unfolding readingFront
-is-front-reading buffer size = front-by (leb size (length buffer)) (reading (take size buffer)) (is-reading (take size buffer))
+pub from-front : (buffer : List ℕ) (size : ℕ) → FromBytes (frontStart buffer size)
+unfolding frontStart
+from-front buffer size = front-by (leb size (length buffer)) (bytesStart (take size buffer)) (from-bytes (take size buffer))
 
 -- ---- what the number means
 
--- 0: a state is taken, and its chart is sound
-pub record Taken (a : ReadingAnswer) (c : Chart) : Type 0 where
+-- 0: there is a start, and its chart is sound
+pub record Taken (a : Outcome State) (c : Chart) : Type 0 where
   pub state : State
-  pub is : a ≡ taken state
+  pub is : a ≡ given state
   pub state-sound : sound state ≡ true
   pub chart : c ≡ chartOf state
   pub chart-sound : soundChart c ≡ true
 
-taken-by : (a : ReadingAnswer) → IsReading a → (h : Held) → IsHeld a h → h .number ≡ 0 → Taken a (h .chart)
-unfolding readingOutcome numberOf chartAfterReading
-taken-by (taken s) r h is z =
+pub held-taken : (a : Outcome State) → FromBytes a → (h : Held) → IsHeld a h → h .number ≡ 0 → Taken a (h .chart)
+unfolding numberOfStart chartOfStart
+held-taken (given s) r h is z =
     let t = r .stays-sound s refl in
     record {
       state = s;
@@ -85,29 +63,26 @@ taken-by (taken s) r h is z =
       chart = is .chart;
       chart-sound = ap soundChart (is .chart) ∙ sound-chart-of s t;
     }
-taken-by (refused n) r h is z = absurd (r .not-zero (sym (is .number) ∙ z))
+held-taken (refused n) r h is z = absurd (omega (arith, r .some n refl, is .number, z))
 
 -- any other number: the call is refused with it
-declined-by : {B : Type 0} (a : ReadingAnswer) (next : State → Outcome B) (h : Held) → IsHeld a h → (h .number ≡ 0 → ⊥)
-    → andThen (readingOutcome a) next ≡ declined (h .number)
-unfolding readingOutcome numberOf andThen
-declined-by (taken s) next h is ne = absurd (ne (is .number))
-declined-by (refused n) next h is ne = ap declined (sym (is .number))
+pub not-held : {B : Type 0} (a : Outcome State) (h : Held) → IsHeld a h → (next : State → Outcome B) → (h .number ≡ 0 → ⊥)
+    → andThen a next ≡ refused (h .number)
+unfolding numberOfStart
+not-held (given s) h is next ne = absurd (ne (is .number))
+not-held (refused n) h is next ne = ap refused (sym (is .number))
 
-module _ (a : ReadingAnswer) (r : IsReading a) (h : Held) (is : IsHeld a h) where
-  pub held-taken : h .number ≡ 0 → Taken a (h .chart)
-  held-taken z = taken-by a r h is z
+-- the number is the one that is answered
+pub number-held : (a : Outcome State) (h : Held) → IsHeld a h → h .number ≡ answeredNumber a
+unfolding numberOfStart answeredNumber
+number-held (given s) h is = is .number
+number-held (refused n) h is = is .number
 
-  pub not-held : {B : Type 0} (next : State → Outcome B) → (h .number ≡ 0 → ⊥)
-      → andThen (readingOutcome a) next ≡ declined (h .number)
-  not-held next ne = declined-by a next h is ne
+-- what follows a start
+pub then-taken : {B : Type 0} (a : Outcome State) (c : Chart) (t : Taken a c) (next : State → Outcome B)
+    → andThen a next ≡ next (t .state)
+then-taken a c t next = ap (λ (x : Outcome State). andThen x next) (t .is)
 
--- what follows a state that is taken
-pub then-taken : {B : Type 0} (a : ReadingAnswer) (c : Chart) (t : Taken a c) (next : State → Outcome B)
-    → andThen (readingOutcome a) next ≡ next (t .state)
-unfolding readingOutcome andThen
-then-taken a c t next = ap (λ (x : ReadingAnswer). andThen (readingOutcome x) next) (t .is)
-
--- the chart's state is the one that is taken
-pub same-state : (a : ReadingAnswer) (c : Chart) (t : Taken a c) → stateOf c ≡ t .state
+-- the chart's state is the start's
+pub same-state : (a : Outcome State) (c : Chart) (t : Taken a c) → stateOf c ≡ t .state
 same-state a c t = ap stateOf (t .chart) ∙ state-of-chart (t .state)

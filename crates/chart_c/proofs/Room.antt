@@ -1,6 +1,6 @@
 -- Only a post makes a chart's form longer (`form-not-longer`). So after a reanalysis, a correction or a renewal there is room for the form
 -- in the buffer that held the form before (`room-kept`), and 15 does not occur.
-use mathlib.Core.Path.{_≡_, refl, ap, _∙_}
+use mathlib.Core.Path.{_≡_, refl, sym, ap, _∙_}
 use mathlib.Core.Bool.{Bool, true, false}
 use mathlib.Core.List.{List, _∷_, [], _++_}
 use Prim.Native.Nat.{ℕ, _+_, _≤_}
@@ -10,25 +10,29 @@ use lib.Seq.{length-take-le}
 use lib.Dec.{leb}
 use lib.IntN.{ℤ}
 use borrow.Author.Tests.{le-leb, leb-true}
-use Rattle.guide.specs.Choice.{require}
-use Rattle.guide.specs.LastWords.{lastWords, butLast}
-use Rattle.guide.specs.Tail.{ofWords, WillDo}
-use Rattle.guide.specs.State.{State, fresh, setStatus, replaceLast}
-use Rattle.guide.specs.Soundness.{sound}
-use Rattle.guide.specs.StoredForm.{storedForm, hasRoom}
-use Rattle.guide.specs.Reading.{ReadingAnswer, taken, refused, reading}
-use Rattle.guide.specs.Reanalysis.{passes}
-use Rattle.guide.specs.State.{limitsFor}
-use Rattle.guide.specs.Machine.{Call, Answer, judged, reanalysed, corrected, renewed, Next, step, posting, reanalysing, afterReanalysis}
-use Rattle.guide.specs.Machine.{correcting, renewedByTail}
-use Rattle.guide.specs.Machine as machine
-use Rattle.guide.proofs.Bytes.{AreBytes}
-use Rattle.guide.proofs.LastWords.{length-but-last, length-last-words}
-use Rattle.guide.proofs.Rejection.{rejection-counts}
-use Rattle.guide.proofs.Soundness.{sound-facts, not-free-facts}
-use Rattle.guide.proofs.Reading.{length-form, stored-read}
-use Rattle.guide.proofs.Machine.{step-ind}
-use Rattle.chart_c.specs.Forms.{readingFront}
+use Rattle.rules.specs.Outcome.{Outcome, given, refused}
+use Rattle.rules.specs.Choice.{require}
+use Rattle.rules.specs.LastWords.{lastWords, butLast}
+use Rattle.rules.specs.Tail.{ofWords, WillDo}
+use Rattle.rules.specs.State.{State, fresh, setStatus, replaceLast}
+use Rattle.rules.specs.Soundness.{sound}
+use Rattle.rules.specs.StoredForm.{storedForm, formFits}
+use Rattle.rules.specs.ReadForm.{reading}
+use Rattle.rules.specs.Lists as start
+use Rattle.rules.specs.Reanalysis.{passes}
+use Rattle.rules.specs.State.{limitsFor}
+use Rattle.rules.specs.Machine.{Call, Answer, judged, reanalysed, corrected, renewed, Next, step, posting, reanalysing, afterReanalysis}
+use Rattle.rules.specs.Machine.{correcting, renewedByTail}
+use Rattle.rules.specs.Machine as machine
+use Rattle.rules.proofs.Bytes.{AreBytes}
+use Rattle.rules.proofs.LastWords.{length-but-last, length-last-words}
+use Rattle.rules.proofs.Rejection.{rejection-counts}
+use Rattle.rules.proofs.Soundness.{sound-facts, not-free-facts}
+use Rattle.rules.proofs.ReadForm.{length-form, stored-read}
+use Rattle.rules.proofs.Machine.{step-ind}
+use Rattle.rules.proofs.Outcome.{given-not-refused}
+use Rattle.rules.proofs.Booleans.{zero-not-one}
+use Rattle.chart_c.specs.Forms.{frontStart}
 
 -- only a post answers a word and a verdict
 abbrev isPosted : Answer → Bool
@@ -69,22 +73,26 @@ module _ (s : State) (h : sound s ≡ true) where
   form-not-longer call =
       step-ind s NotLonger
       (λ n _ e. omega arith)
-      (λ w free room r e. let z : _≡_ {A = ℕ} 0 1 = cc in absurd (omega arith))
+      (λ w free room r e. zero-not-one cc)
       (λ w due r e. by-passing w (passes (limitsFor s) (s .openVerdict) (s .series) w) due)
       (λ due e. no-longer s _ (omega arith))
       (λ k free is e. renewal-no-longer k (is .will-do))
       call
 
 -- a form that is read from the front of a buffer is no longer than the buffer
-front-facts : (fits : Bool) (a : ReadingAnswer) (s : State) → require fits (refused 13) a ≡ taken s → (fits ≡ true) × (a ≡ taken s)
-front-facts true a s e = (refl, e)
-front-facts false a s e = let z : _≡_ {A = ℕ} 0 1 = cc in absurd (omega arith)
+pub record Front (fits : Bool) (a : Outcome State) (s : State) : Type 0 where
+  pub within : fits ≡ true
+  pub read : a ≡ given s
 
-pub room-kept : (buffer : List ℕ) (size : ℕ) (s : State) → AreBytes (take size buffer) → readingFront buffer size ≡ taken s
-    → sound s ≡ true → (call : Call) → isPosted (step s call .answer) ≡ false → hasRoom (step s call .state) buffer ≡ true
-unfolding readingFront hasRoom
+front-facts : (fits : Bool) (a : Outcome State) (s : State) → require fits (refused 13) a ≡ given s → Front fits a s
+front-facts true a s e = record { within = refl; read = e }
+front-facts false a s e = given-not-refused (sym e)
+
+pub room-kept : (buffer : List ℕ) (size : ℕ) (s : State) → AreBytes (take size buffer) → frontStart buffer size ≡ given s
+    → sound s ≡ true → (call : Call) → isPosted (step s call .answer) ≡ false → formFits (step s call .state) buffer ≡ true
+unfolding frontStart formFits
 room-kept buffer size s are e h call other =
-    let facts = front-facts (leb size (length buffer)) (reading (take size buffer)) s e in
-    let fits = leb-true size (length buffer) (facts .0) in
-    let form = ap length (stored-read (take size buffer) s are (facts .1)) ∙ length-take-le size buffer fits in
+    let front = front-facts (leb size (length buffer)) (reading (take size buffer)) s e in
+    let fits = leb-true size (length buffer) (front .within) in
+    let form = ap length (stored-read (take size buffer) s are (front .read)) ∙ length-take-le size buffer fits in
     le-leb (length (storedForm (step s call .state))) (length buffer) (omega (arith, form-not-longer s h call other))

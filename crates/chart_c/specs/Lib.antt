@@ -1,5 +1,6 @@
--- What the functions of the C interface answer, and what they leave in the lent places, by the definitions of `guide`.
-pub mod Outcome
+-- What the functions of the C interface answer, and what they leave in the lent places, by the definitions of `rules`.
+pub mod Lent
+pub mod Answers
 pub mod Forms
 pub mod Calls
 pub mod Plotting

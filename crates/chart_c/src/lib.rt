@@ -4,27 +4,28 @@
 // Each function answers 0 or the number of a refusal. A refusal leaves everything that was lent as it was. A function reads the chart from
 // its bytes (13, 14), makes the call (its own numbers, in the paper's order), and writes the chart after it (15). A slice is passed as a
 // pointer and a length, a `&mut` number as a pointer.
+mod answers;
+mod calls;
 mod forms;
 mod plotting;
 mod strings;
 
-use chart::BuildAnswer;
-use chart::Chart;
-use chart::CorrectionAnswer;
-use chart::PostAnswer;
-use chart::ReanalysisAnswer;
-use chart::RenewalAnswer;
-use forms::held_at_front;
-use forms::held_in;
-use forms::kind_of;
-use forms::put_chart;
+use answers::number_in;
+use answers::put_counts;
+use answers::put_judged;
+use answers::put_reanalysed;
+use calls::Call;
+use calls::built;
+use calls::call_on;
+use calls::keep;
+use forms::kind_passed;
 use lines::against_lines_sound;
 use lines::lines_of_sound;
 use plotting::BEYOND_SIZE;
-use plotting::flag_of;
 use plotting::is_word;
 use plotting::put_beyond;
-use plotting::put_lines;
+use plotting::put_line_doubles;
+use store::held::held_in;
 use strings::TEXT_MOST;
 use strings::put_string;
 use texts::put_refusal_meaning;
@@ -32,24 +33,23 @@ use texts::put_verdict_meaning;
 use texts::put_version;
 use words::Formed;
 ghost use mathlib.Core.Path.{_≡_};
-ghost use mathlib.Core.Bool.{true};
-ghost use Rattle.guide.specs.Word.{wordAlone};
-ghost use Rattle.guide.specs.Building.{building};
-ghost use Rattle.guide.specs.Machine as machine;
-ghost use Rattle.chart.specs.Chart.{stateOf};
-ghost use Rattle.chart.specs.Soundness.{soundChart};
-ghost use Rattle.chart_c.specs.Calls.{formedOutcome, builtOutcome, called, reanalysedOutcome};
-ghost use Rattle.chart_c.specs.Calls.{FormsWord, BuildsInto, KeepsNext, Posts, Reanalyses, Renews};
+ghost use Rattle.rules.specs.Outcome.{refused};
+ghost use Rattle.rules.specs.Word.{wordAlone};
+ghost use Rattle.rules.specs.Building.{building};
+ghost use Rattle.rules.specs.Machine as machine;
 ghost use Rattle.texts.specs.Texts.{refusalMeaning, verdictMeaning, version};
+ghost use Rattle.chart_c.specs.Lent.{answeredNumber};
+ghost use Rattle.chart_c.specs.Answers.{Judges, Reanalyses, Counts};
+ghost use Rattle.chart_c.specs.Calls.{FormsWord, builtOutcome, called, Leaves};
 ghost use Rattle.chart_c.specs.Plotting.{drawn, Draws, compared, Compares, Checks};
 ghost use Rattle.chart_c.specs.Texts.{PutsText};
 
 // A kind is passed as a number of 32 bits. So a number that does not fit in sixteen bits is not cut to a valid kind on its way here.
 #[no_mangle]
 pub extern "C" fn control_chart_word(kind: u32, a: i64, b: i64, c: i64, word: &mut i16) -> u16
-    ensures { λ r. ⌜ FormsWord (formedOutcome (wordAlone kind a b c)) (now (word .entry)) (now (word .exit)) r ⌝ }
+    ensures { λ r. ⌜ FormsWord (wordAlone kind a b c) (now (word .entry)) (now (word .exit)) r ⌝ }
 {
-    let formed = words::word(kind_of(kind), a, b, c);
+    let formed = words::word(kind_passed(kind), a, b, c);
     match formed {
         Formed::Word(w) => {
             *word = w;
@@ -69,28 +69,11 @@ pub extern "C" fn control_chart_build(
     removed: &mut usize,
 ) -> u16
     ensures { λ r.
-        ⌜ BuildsInto (builtOutcome (now (chart .entry)) (building kind (now (words .entry))))
+        ⌜ Leaves (builtOutcome (now (chart .entry)) (building kind (now (words .entry))))
         (now (chart .entry)) (now (chart .exit)) (now (size .entry)) (now (size .exit))
-        (now (rounds .entry)) (now (rounds .exit)) (now (removed .entry)) (now (removed .exit)) r ⌝ }
+        (λ p. Counts p (now (rounds .entry)) (now (rounds .exit)) (now (removed .entry)) (now (removed .exit)) r) ⌝ }
 {
-    let built = Chart::build(kind_of(kind), words);
-    let next = built.chart;
-    let answer = built.answer;
-    match answer {
-        BuildAnswer::Done {
-            rounds: counted,
-            removed: taken_out,
-        } => {
-            let number = put_chart(next, chart, size);
-            if number != 0 {
-                return number;
-            }
-            *rounds = counted;
-            *removed = taken_out;
-            0
-        }
-        BuildAnswer::Refused(n) => n,
-    }
+    put_counts(keep(built(kind, words), chart, size), rounds, removed)
 }
 
 #[no_mangle]
@@ -105,34 +88,12 @@ pub extern "C" fn control_chart_post(
     verdict: &mut u16,
 ) -> u16
     ensures { λ r.
-        ⌜ Posts (called (now (chart .entry)) (now (size .entry)) (machine.post kind a b c))
-        (now (chart .entry)) (now (chart .exit)) (now (size .entry)) (now (size .exit)) (now (word .entry))
-        (now (word .exit)) (now (verdict .entry)) (now (verdict .exit)) r ⌝ }
+        ⌜ Leaves (called (now (chart .entry)) (now (size .entry)) (machine.post kind a b c))
+        (now (chart .entry)) (now (chart .exit)) (now (size .entry)) (now (size .exit))
+        (λ p. Judges p (now (word .entry)) (now (word .exit)) (now (verdict .entry)) (now (verdict .exit)) r) ⌝ }
 {
-    let held = held_at_front(chart, *size);
-    let before = held.chart;
-    let refusal = held.number;
-    if refusal != 0 {
-        return refusal;
-    }
-    let posted = before.post_sound(kind_of(kind), a, b, c);
-    let next = posted.chart;
-    let answer = posted.answer;
-    match answer {
-        PostAnswer::Judged {
-            word: w,
-            verdict: v,
-        } => {
-            let number = put_chart(next, chart, size);
-            if number != 0 {
-                return number;
-            }
-            *word = w;
-            *verdict = v;
-            0
-        }
-        PostAnswer::Refused(n) => n,
-    }
+    let call = Call::Post { kind, a, b, c };
+    put_judged(call_on(chart, size, call), word, verdict)
 }
 
 #[no_mangle]
@@ -147,70 +108,22 @@ pub extern "C" fn control_chart_reanalyse(
     passed: &mut u8,
 ) -> u16
     ensures { λ r.
-        ⌜ Reanalyses (called (now (chart .entry)) (now (size .entry)) (machine.reanalysis kind a b c))
-        (now (chart .entry)) (now (chart .exit)) (now (size .entry)) (now (size .exit)) (now (word .entry))
-        (now (word .exit)) (now (passed .entry)) (now (passed .exit)) r ⌝ }
+        ⌜ Leaves (called (now (chart .entry)) (now (size .entry)) (machine.reanalysis kind a b c))
+        (now (chart .entry)) (now (chart .exit)) (now (size .entry)) (now (size .exit))
+        (λ p. Reanalyses p (now (word .entry)) (now (word .exit)) (now (passed .entry)) (now (passed .exit)) r) ⌝ }
 {
-    let held = held_at_front(chart, *size);
-    let before = held.chart;
-    let refusal = held.number;
-    if refusal != 0 {
-        return refusal;
-    }
-    let reanalysed = before.reanalyse_sound(kind_of(kind), a, b, c);
-    let next = reanalysed.chart;
-    let answer = reanalysed.answer;
-    match answer {
-        ReanalysisAnswer::Passed(w) => put_reanalysed(next, w, true, chart, size, word, passed),
-        ReanalysisAnswer::Failed(w) => put_reanalysed(next, w, false, chart, size, word, passed),
-        ReanalysisAnswer::Refused(n) => n,
-    }
-}
-
-// Puts the chart and the answer of a reanalysis that was not refused. If there is no room, it answers 15 and leaves everything as it was.
-fn put_reanalysed(
-    next: Chart,
-    w: i16,
-    passes: bool,
-    chart: &mut [u8],
-    size: &mut usize,
-    word: &mut i16,
-    passed: &mut u8,
-) -> u16
-    requires { ⌜ soundChart next ≡ true ⌝ }
-    ensures { λ r.
-        ⌜ Reanalyses (reanalysedOutcome (now (chart .entry)) (stateOf next) w passes)
-        (now (chart .entry)) (now (chart .exit)) (now (size .entry)) (now (size .exit)) (now (word .entry))
-        (now (word .exit)) (now (passed .entry)) (now (passed .exit)) r ⌝ }
-{
-    let number = put_chart(next, chart, size);
-    if number != 0 {
-        return number;
-    }
-    *word = w;
-    *passed = flag_of(passes);
-    0
+    let call = Call::Reanalysis { kind, a, b, c };
+    put_reanalysed(call_on(chart, size, call), word, passed)
 }
 
 #[no_mangle]
 pub extern "C" fn control_chart_correct(chart: &mut [u8], size: &mut usize) -> u16
     ensures { λ r.
-        ⌜ KeepsNext (called (now (chart .entry)) (now (size .entry)) machine.correction)
-        (now (chart .entry)) (now (chart .exit)) (now (size .entry)) (now (size .exit)) r ⌝ }
+        ⌜ Leaves (called (now (chart .entry)) (now (size .entry)) machine.correction)
+        (now (chart .entry)) (now (chart .exit)) (now (size .entry)) (now (size .exit))
+        (λ p. r ≡ answeredNumber p) ⌝ }
 {
-    let held = held_at_front(chart, *size);
-    let before = held.chart;
-    let refusal = held.number;
-    if refusal != 0 {
-        return refusal;
-    }
-    let corrected = before.correct_sound();
-    let next = corrected.chart;
-    let answer = corrected.answer;
-    match answer {
-        CorrectionAnswer::Done => put_chart(next, chart, size),
-        CorrectionAnswer::Refused(n) => n,
-    }
+    number_in(call_on(chart, size, Call::Correction))
 }
 
 #[no_mangle]
@@ -221,34 +134,11 @@ pub extern "C" fn control_chart_renew(
     removed: &mut usize,
 ) -> u16
     ensures { λ r.
-        ⌜ Renews (called (now (chart .entry)) (now (size .entry)) machine.renewal)
+        ⌜ Leaves (called (now (chart .entry)) (now (size .entry)) machine.renewal)
         (now (chart .entry)) (now (chart .exit)) (now (size .entry)) (now (size .exit))
-        (now (rounds .entry)) (now (rounds .exit)) (now (removed .entry)) (now (removed .exit)) r ⌝ }
+        (λ p. Counts p (now (rounds .entry)) (now (rounds .exit)) (now (removed .entry)) (now (removed .exit)) r) ⌝ }
 {
-    let held = held_at_front(chart, *size);
-    let before = held.chart;
-    let refusal = held.number;
-    if refusal != 0 {
-        return refusal;
-    }
-    let renewed = before.renew_sound();
-    let next = renewed.chart;
-    let answer = renewed.answer;
-    match answer {
-        RenewalAnswer::Done {
-            rounds: counted,
-            removed: taken_out,
-        } => {
-            let number = put_chart(next, chart, size);
-            if number != 0 {
-                return number;
-            }
-            *rounds = counted;
-            *removed = taken_out;
-            0
-        }
-        RenewalAnswer::Refused(n) => n,
-    }
+    put_counts(call_on(chart, size, Call::Renewal), rounds, removed)
 }
 
 #[no_mangle]
@@ -263,7 +153,7 @@ pub extern "C" fn control_chart_lines(chart: &[u8], lines: &mut [f64], count: &m
     if refusal != 0 {
         return refusal;
     }
-    put_lines(lines_of_sound(before), lines, count)
+    put_line_doubles(lines_of_sound(before), lines, count)
 }
 
 // A word is passed as a number of 32 bits too. A number that does not fit in sixteen bits is refused with 7.

@@ -1,11 +1,13 @@
 // Doubles and flags into lent buffers.
 use lines::BeyondEach;
 use lines::Lines;
+use printing::put_text;
 ghost use mathlib.Core.Path.{_≡_};
 ghost use Prim.Native.Nat.{_≤_};
 ghost use lib.ListN.{length};
 ghost use Rattle.lines.specs.Lines.{linesSay, beyondSays};
-ghost use Rattle.chart_c.specs.Outcome.{atFront, flag};
+ghost use Rattle.rules.specs.Buffer.{atFront};
+ghost use Rattle.chart_c.specs.Lent.{flag};
 ghost use Rattle.chart_c.specs.Plotting.{doublesOf, doublesInto, Draws, isWord, flagsOf};
 
 // One byte for each limit: whether a word is beyond it.
@@ -13,7 +15,7 @@ pub const BEYOND_SIZE: usize = 4;
 
 // Puts the lines' doubles at the front of the buffer, and their number into `count`. If there is no room, it answers 15 and leaves both as
 // they were.
-pub fn put_lines(lines: Lines, buffer: &mut [f64], count: &mut usize) -> u16
+pub fn put_line_doubles(lines: Lines, buffer: &mut [f64], count: &mut usize) -> u16
     ensures { λ r.
         ⌜ Draws (doublesInto (now (buffer .entry)) (doublesOf (linesSay lines)))
         (now (buffer .entry)) (now (buffer .exit)) (now (count .entry)) (now (count .exit)) r ⌝ }
@@ -82,7 +84,7 @@ pub fn put_beyond(b: BeyondEach, buffer: &mut [u8])
         flag_of(b.lower_control),
         flag_of(b.upper_control),
     ];
-    copy_bytes(&flags, buffer);
+    put_text(buffer, 0, &flags);
 }
 
 // 1 for yes, 0 for no.
@@ -90,15 +92,4 @@ pub fn flag_of(holds: bool) -> u8
     ensures { λ r. ⌜ r ≡ flag holds ⌝ }
 {
     if holds { 1 } else { 0 }
-}
-
-pub fn copy_bytes(bytes: &[u8], buffer: &mut [u8])
-    requires { ⌜ length (now bytes) ≤ length (now buffer) ⌝ }
-    ensures { λ _. ⌜ now (buffer .exit) ≡ atFront (now (bytes .entry)) (now (buffer .entry)) ⌝ }
-{
-    let mut i: usize = 0;
-    while i < bytes.len() {
-        buffer[i] = bytes[i];
-        i += 1;
-    }
 }

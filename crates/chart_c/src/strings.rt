@@ -1,5 +1,6 @@
 // Texts into lent buffers, as strings of C.
-use crate::plotting::copy_bytes;
+use printing::put_byte;
+use printing::put_text;
 ghost use Rattle.chart_c.specs.Texts.{PutsText};
 
 // A buffer of this length has room for every text of `texts` and its 0 byte. `include/control_chart.h` repeats the number.
@@ -12,7 +13,7 @@ pub fn put_string(text: &[u8], buffer: &mut [u8]) -> u16
     if buffer.len() <= text.len() {
         return 15;
     }
-    copy_bytes(text, buffer);
-    buffer[text.len()] = 0;
+    let end = put_text(buffer, 0, text);
+    put_byte(buffer, end, 0);
     0
 }

@@ -11,15 +11,16 @@ use lib.ListN.{length, take, drop, getD, length-drop}
 use lib.Seq.{take-all, drop-cons, drop-drop}
 use lib.Dec.{eqb, ltb}
 use lib.IntN.{ℤ}
-use Rattle.guide.specs.Choice.{choose}
-use Rattle.guide.proofs.Integers.{by-order}
-use Rattle.guide.proofs.Choice.{choose-ind}
+use Rattle.rules.specs.Choice.{choose}
+use Rattle.rules.proofs.Integers.{by-order}
+use Rattle.rules.proofs.Choice.{choose-ind}
+use Rattle.rules.proofs.Booleans.{zero-not-one}
 use Rattle.parsing.specs.declared.numbers.Number.{Number}
 use Rattle.parsing.specs.Fields.{isBlank, inFront, startingWith, fieldsOf, between, IsFirstField}
-use Rattle.parsing.specs.Number.{numberIn, numberSays, kindOf, readingOf}
+use Rattle.parsing.specs.Number.{numberInField, numberSays, kindInField, readingInField}
 use Rattle.commands.specs.declared.numbers.NumberAt.{NumberAt}
 use Rattle.commands.specs.Command.{firstField, firstNumber, isComment}
-use Rattle.commands.specs.Answers.{fieldsFrom, IsNumberAt, AreReadings}
+use Rattle.commands.specs.Answers.{fieldsFrom, IsFieldAt, IsNumberAt, AreReadings}
 
 -- the part of a line that begins at a byte, as a slice
 pub part-from : (line : List ℕ) (at : ℕ) → take (length line - at) (drop at line) ≡ drop at line
@@ -36,14 +37,14 @@ some-field field fields = ap not (ne-eqb (suc (length fields)) 0 (λ e. omega ar
 -- ---- a text without fields has none from any byte on
 
 front-is-some : (b : ℕ) (fields : List (List ℕ)) → inFront b fields ≡ [] → ⊥
-front-is-some b [] e = let z : _≡_ {A = ℕ} 0 1 = cc in omega arith
-front-is-some b (field ∷ fields) e = let z : _≡_ {A = ℕ} 0 1 = cc in omega arith
+front-is-some b [] e = zero-not-one cc
+front-is-some b (field ∷ fields) e = zero-not-one cc
 
 start-is-some : (b : ℕ) (rest : List ℕ) (fields : List (List ℕ)) → startingWith b rest fields ≡ [] → ⊥
-start-is-some b [] fields e = let z : _≡_ {A = ℕ} 0 1 = cc in omega arith
+start-is-some b [] fields e = zero-not-one cc
 start-is-some b (next ∷ rest) fields e =
     choose-ind (λ (found : List (List ℕ)). found ≡ [] → ⊥) (isBlank next) ((b ∷ []) ∷ fields) (inFront b fields)
-    (λ t none. let z : _≡_ {A = ℕ} 0 1 = cc in omega arith)
+    (λ t none. zero-not-one cc)
     (λ t. front-is-some b fields)
     e
 
@@ -97,20 +98,41 @@ module _ {text : List ℕ} {start end : ℕ} (field : IsFirstField text start en
       (λ none. rw (no-fields-behind text end (none-found none), none-found none))
       (λ some. rw (one-found some))
 
--- ---- the number in the first field from a byte on
+-- ---- the first field from a byte on, and the number in it
 
-pub number-found : {line : List ℕ} {at start end : ℕ} {n : Number} → at ≤ length line → IsFirstField (drop at line) start end
-    → numberSays n ≡ numberIn (between start end (drop at line))
-    → IsNumberAt line at (record { present = ltb start end; number = n; next = at + end })
-unfolding firstNumber
-number-found {line} {at} {start} {end} h field says =
+pub field-found : {line : List ℕ} {at start end : ℕ} → at ≤ length line → IsFirstField (drop at line) start end
+    → IsFieldAt line at (at + start) (at + end)
+field-found {line} {at} {start} {end} h field =
     let count = length-drop at line in
+    let size : at + end - (at + start) ≡ end - start = omega arith in
+    let from : at + start - at ≡ start = omega arith in
+    let to : at + end - at ≡ end = omega arith in
+    let test : ltb (at + start) (at + end) ≡ ltb start end =
+    by-order start end
+    (λ none. rw (le-ltb start end none) (le-ltb (at + start) (at + end) (omega arith)))
+    (λ some. rw (lt-ltb start end some) (lt-ltb (at + start) (at + end) (omega arith))) in
     record {
-      present = field-is-there field;
-      number = says ∙ ap numberIn (first-field-is field);
-      rest = rw (← drop-drop end at line) (fields-behind field);
+      after = omega arith;
+      first = rw (from, to) field;
+      ordered = omega (arith, field .ordered);
       within = omega (arith, field .within);
-      behind = λ t. omega (arith, ltb-true start end t);
+      behind = λ some. omega arith;
+      present = test ∙ field-is-there field;
+      field = rw (size, ← drop-drop start at line) (first-field-is field);
+      rest = rw (← drop-drop end at line) (fields-behind field);
+    }
+
+pub number-found : {line : List ℕ} {at start end : ℕ} {n : Number} → IsFieldAt line at start end
+    → numberSays n ≡ numberInField (between start end line)
+    → IsNumberAt line at (record { present = ltb start end; number = n; next = end })
+unfolding firstNumber
+number-found {line} {at} {start} {end} found says =
+    record {
+      present = found .present;
+      number = says ∙ ap numberInField (found .field);
+      rest = found .rest;
+      within = found .within;
+      behind = λ t. found .behind (ltb-true start end t);
     }
 
 -- ---- a loop over the numbers of a line ends
@@ -142,13 +164,13 @@ module _ {line : List ℕ} {at : ℕ} {n₁ n₂ n₃ n₄ : NumberAt} (first : 
   pub behind-four : fieldsFrom line (n₄ .next) ≡ drop 4 (fieldsFrom line at)
   behind-four = fourth .rest ∙ ap (drop 1) behind-three ∙ drop-drop 1 3 (fieldsFrom line at)
 
-  pub readings-found : {kind : ℕ} {a b c : ℤ} → kind ≡ kindOf (numberSays (n₁ .number)) → a ≡ readingOf (numberSays (n₂ .number))
-      → b ≡ readingOf (numberSays (n₃ .number)) → c ≡ readingOf (numberSays (n₄ .number))
+  pub readings-found : {kind : ℕ} {a b c : ℤ} → kind ≡ kindInField (numberSays (n₁ .number)) → a ≡ readingInField (numberSays (n₂ .number))
+      → b ≡ readingInField (numberSays (n₃ .number)) → c ≡ readingInField (numberSays (n₄ .number))
       → AreReadings (fieldsFrom line at) (record { kind = kind; a = a; b = b; c = c })
   readings-found is-kind is-a is-b is-c =
       record {
-        kind = is-kind ∙ ap kindOf (first .number);
-        a = is-a ∙ ap readingOf (second .number ∙ ap firstNumber (first .rest));
-        b = is-b ∙ ap readingOf (third .number ∙ ap firstNumber behind-two);
-        c = is-c ∙ ap readingOf (fourth .number ∙ ap firstNumber behind-three);
+        kind = is-kind ∙ ap kindInField (first .number);
+        a = is-a ∙ ap readingInField (second .number ∙ ap firstNumber (first .rest));
+        b = is-b ∙ ap readingInField (third .number ∙ ap firstNumber behind-two);
+        c = is-c ∙ ap readingInField (fourth .number ∙ ap firstNumber behind-three);
       }

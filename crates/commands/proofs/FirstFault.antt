@@ -3,48 +3,47 @@
 use mathlib.Core.Path.{_≡_, refl, sym, ap, _∙_}
 use mathlib.Core.Bool.{true, false}
 use mathlib.Core.List.{List, [], _∷_}
-use Prim.Native.Nat.{ℕ, zero, suc}
-use native.Mathlib.Omega.{arith}
+use Prim.Native.Nat.{ℕ}
 use lib.ListN.{drop}
-use Rattle.guide.specs.Choice.{require, choose}
-use Rattle.parsing.specs.Fields.{fieldsOf, between, IsFirstField}
+use Rattle.rules.specs.Choice.{require, choose}
+use Rattle.rules.proofs.Booleans.{zero-not-one}
+use Rattle.parsing.specs.Fields.{between}
 use Rattle.parsing.specs.Number.{FieldNumber}
-use Rattle.replies.specs.Faults.{missingNumber, extraNumber, orElse}
+use Rattle.replies.specs.declared.Fault.{Fault}
+use Rattle.replies.specs.declared.Fault.the-variants as faults
+use Rattle.commands.specs.declared.faults.Finding.{Finding}
+use Rattle.commands.specs.declared.faults.Finding.the-variants as finding
 use Rattle.commands.specs.declared.numbers.NumberAt.{NumberAt}
-use Rattle.commands.specs.Command.{firstNumber, numberFault, readingFault, wantedFault, endFault, readingsFault, wordsFault}
+use Rattle.commands.specs.Command.{orElse, firstNumber, numberFault, readingFault, wantedFault, endFault, readingsFault, wordsFault}
 use Rattle.commands.specs.Command.{buildFault, hexFault, readFault}
-use Rattle.commands.specs.Answers.{fieldsFrom, IsNumberAt, faultAt}
-use Rattle.commands.proofs.Fields.{someField, some-field, first-field-is, fields-behind, behind-two, behind-three, behind-four}
-
-pub or-else-first : (fault later : ℕ) → (fault ≡ 0 → ⊥) → fault ≡ orElse fault later
-or-else-first zero later some = absurd (some refl)
-or-else-first (suc fault) later some = refl
+use Rattle.commands.specs.Answers.{fieldsFrom, IsFieldAt, IsNumberAt, faultAt}
+use Rattle.commands.proofs.Fields.{someField, some-field, behind-two, behind-three, behind-four}
 
 -- ---- of one number
 
-wanted-fault : (fault : FieldNumber → ℕ) (fields : List (List ℕ))
-    → require (someField fields) missingNumber (fault (firstNumber fields)) ≡ wantedFault fault fields
+wanted-fault : (fault : FieldNumber → Finding) (fields : List (List ℕ))
+    → require (someField fields) (finding.Is faults.MissingNumber) (fault (firstNumber fields)) ≡ wantedFault fault fields
 unfolding firstNumber
 wanted-fault fault [] = refl
 wanted-fault fault (field ∷ fields) = rw (some-field field fields)
 
-end-fault : (fields : List (List ℕ)) → choose (someField fields) extraNumber 0 ≡ endFault fields
+end-fault : (fields : List (List ℕ)) → choose (someField fields) (finding.Is faults.ExtraNumber) finding.NoFault ≡ endFault fields
 end-fault [] = refl
 end-fault (field ∷ fields) = rw (some-field field fields)
 
 module _ {line : List ℕ} {at : ℕ} {n : NumberAt} (found : IsNumberAt line at n) where
-  pub fault-found : (fault : FieldNumber → ℕ) → faultAt fault n ≡ wantedFault fault (fieldsFrom line at)
+  pub fault-found : (fault : FieldNumber → Finding) → faultAt fault n ≡ wantedFault fault (fieldsFrom line at)
   unfolding faultAt
   fault-found fault = rw (found .present, found .number) (wanted-fault fault (fieldsFrom line at))
 
-  pub end-found : choose (n .present) extraNumber 0 ≡ endFault (fieldsFrom line at)
+  pub end-found : choose (n .present) (finding.Is faults.ExtraNumber) finding.NoFault ≡ endFault (fieldsFrom line at)
   end-found = rw (found .present) (end-fault (fieldsFrom line at))
 
 -- ---- of four numbers, one after the other
 
 module _ {line : List ℕ} {at : ℕ} {n₁ n₂ n₃ n₄ : NumberAt} (first : IsNumberAt line at n₁) (second : IsNumberAt line (n₁ .next) n₂)
     (third : IsNumberAt line (n₂ .next) n₃) (fourth : IsNumberAt line (n₃ .next) n₄) where
-  pub readings-faults : {k a b c e : ℕ} → k ≡ faultAt numberFault n₁ → a ≡ faultAt readingFault n₂ → b ≡ faultAt readingFault n₃
+  pub readings-faults : {k a b c e : Finding} → k ≡ faultAt numberFault n₁ → a ≡ faultAt readingFault n₂ → b ≡ faultAt readingFault n₃
       → c ≡ faultAt readingFault n₄ → e ≡ endFault (fieldsFrom line (n₄ .next))
       → orElse k (orElse a (orElse b (orElse c e))) ≡ readingsFault (fieldsFrom line at)
   unfolding readingsFault
@@ -59,7 +58,7 @@ module _ {line : List ℕ} {at : ℕ} {n₁ n₂ n₃ n₄ : NumberAt} (first : 
 
 -- ---- of a number and words
 
-pub build-faults : {line : List ℕ} {at : ℕ} {n : NumberAt} {k w : ℕ} → IsNumberAt line at n → k ≡ faultAt numberFault n
+pub build-faults : {line : List ℕ} {at : ℕ} {n : NumberAt} {k w : Finding} → IsNumberAt line at n → k ≡ faultAt numberFault n
     → w ≡ wordsFault (fieldsFrom line (n .next)) → orElse k w ≡ buildFault (fieldsFrom line at)
 unfolding buildFault
 build-faults found is-k is-w =
@@ -69,12 +68,12 @@ build-faults found is-k is-w =
 
 -- ---- of hex digits
 
-pub read-faults : {text : List ℕ} {start end h e : ℕ} → IsFirstField text start end → h ≡ hexFault (between start end text)
-    → e ≡ endFault (fieldsFrom text end) → orElse h e ≡ readFault (fieldsOf text)
+pub read-faults : {line : List ℕ} {at start end : ℕ} {h e : Finding} → IsFieldAt line at start end → h ≡ hexFault (between start end line)
+    → e ≡ endFault (fieldsFrom line end) → orElse h e ≡ readFault (fieldsFrom line at)
 unfolding readFault
-read-faults field is-h is-e =
-    let h-found = is-h ∙ ap hexFault (first-field-is field) in
-    let e-found = is-e ∙ ap endFault (fields-behind field) in
+read-faults found is-h is-e =
+    let h-found = is-h ∙ ap hexFault (found .field) in
+    let e-found = is-e ∙ ap endFault (found .rest) in
     λ i. orElse (h-found i) (e-found i)
 
 -- ---- of words, one after the other
@@ -82,13 +81,13 @@ read-faults field is-h is-e =
 one-word : (fields : List (List ℕ)) → someField fields ≡ true
     → wordsFault fields ≡ orElse (wantedFault numberFault fields) (wordsFault (drop 1 fields))
 unfolding wordsFault
-one-word [] t = let z : _≡_ {A = ℕ} 0 1 = cc in absurd (omega arith)
+one-word [] t = zero-not-one cc
 one-word (field ∷ fields) t = refl
 
-no-word : (fields : List (List ℕ)) → someField fields ≡ false → wordsFault fields ≡ 0
+no-word : (fields : List (List ℕ)) → someField fields ≡ false → wordsFault fields ≡ finding.NoFault
 unfolding wordsFault
 no-word [] t = refl
-no-word (field ∷ fields) t = let s = some-field field fields in let z : _≡_ {A = ℕ} 0 1 = cc in absurd (omega arith)
+no-word (field ∷ fields) t = let s = some-field field fields in zero-not-one cc
 
 -- n is the number at a place, and no word before it has a fault. So the first fault of all words is that of the words from there on
 pub record FaultsFrom (line : List ℕ) (at : ℕ) (n : NumberAt) : Type 0 where
@@ -108,17 +107,17 @@ module _ {line : List ℕ} {at : ℕ} {n : NumberAt} (so-far : FaultsFrom line a
       ∙ one-word fields (sym (found .present) ∙ t)
       ∙ (λ i. orElse (sym (fault-found found numberFault) i) (wordsFault (sym (found .rest) i)))
 
-  pub fault-here : {fault : ℕ} → n .present ≡ true → fault ≡ faultAt numberFault n → (fault ≡ 0 → ⊥)
-      → fault ≡ wordsFault (fieldsFrom line at)
-  fault-here {fault} t e some =
+  pub fault-here : {found : Finding} (f : Fault) → n .present ≡ true → found ≡ faultAt numberFault n → found ≡ finding.Is f
+      → found ≡ wordsFault (fieldsFrom line at)
+  fault-here f t e is =
       let later = wordsFault (fieldsFrom line (n .next)) in
-      or-else-first fault later some ∙ ap (λ (f : ℕ). orElse f later) e ∙ sym (next-word t)
+      is ∙ ap (λ (x : Finding). orElse x later) (sym is ∙ e) ∙ sym (next-word t)
 
-  pub faults-more : {fault : ℕ} {m : NumberAt} → n .present ≡ true → fault ≡ faultAt numberFault n → fault ≡ 0
+  pub faults-more : {found : Finding} {m : NumberAt} → n .present ≡ true → found ≡ faultAt numberFault n → found ≡ finding.NoFault
       → IsNumberAt line (n .next) m → FaultsFrom line at m
-  faults-more t e none found =
+  faults-more t e none next =
       let later = wordsFault (fieldsFrom line (n .next)) in
-      record { place = n .next; found = found; rest = ap (λ (f : ℕ). orElse f later) (sym none ∙ e) ∙ sym (next-word t) }
+      record { place = n .next; found = next; rest = ap (λ (x : Finding). orElse x later) (sym none ∙ e) ∙ sym (next-word t) }
 
-  pub faults-end : n .present ≡ false → 0 ≡ wordsFault (fieldsFrom line at)
+  pub faults-end : n .present ≡ false → finding.NoFault ≡ wordsFault (fieldsFrom line at)
   faults-end t = sym (no-word (fieldsFrom line (so-far .place)) (sym (so-far .found .present) ∙ t)) ∙ so-far .rest

@@ -3,10 +3,9 @@
 pub mod Fields
 mod FirstFault
 mod WordsPut
-pub mod Fronts
 mod NamesTried
 mod Lines
-mod Replying
+pub mod Replying
 mod Writing
 mod Room
 pub mod ReadBack

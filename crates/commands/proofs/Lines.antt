@@ -3,7 +3,7 @@
 use mathlib.Core.Path.{_≡_, refl, ap, _∙_}
 use mathlib.Core.Bool.{true, false}
 use mathlib.Core.List.{List, [], _∷_, _++_}
-use Prim.Native.Nat.{ℕ, zero, suc, _≤_, _<_}
+use Prim.Native.Nat.{ℕ, _≤_, _<_}
 use native.Mathlib.Omega.{arith}
 use borrow.Author.Tests.{lt-leb, le-leb}
 use lib.ListN.{length, drop, getD}
@@ -12,7 +12,10 @@ use Rattle.chart.specs.declared.Chart.{Chart}
 use Rattle.parsing.specs.Fields.{fieldsOf, between, IsFirstField}
 use Rattle.printing.specs.Output.{Puts}
 use Rattle.printing.proofs.Putting.{puts-then}
-use Rattle.replies.specs.Faults.{lineTooLong}
+use Rattle.replies.specs.declared.Fault.{Fault}
+use Rattle.replies.specs.declared.Fault.the-variants as faults
+use Rattle.commands.specs.declared.faults.Finding.{Finding}
+use Rattle.commands.specs.declared.faults.Finding.the-variants as finding
 use Rattle.commands.specs.declared.names.Name.{Name}
 use Rattle.commands.specs.declared.names.Name.the-variants as name
 use Rattle.commands.specs.Command.{passedOver, faulty, lineMost, commandFor, faultFor, nameIn, namedLine, lineOf, lineIn}
@@ -20,21 +23,9 @@ use Rattle.commands.specs.Reply.{replyToLine, answerToLine}
 use Rattle.commands.specs.Answers.{Answers, Replies}
 use Rattle.commands.proofs.Fields.{none-found, one-found, comment-found}
 
-pub too-long : (text : List ℕ) → lineMost < length text → lineIn text ≡ faulty lineTooLong
+pub too-long : (text : List ℕ) → lineMost < length text → lineIn text ≡ faulty faults.LineTooLong
 unfolding lineIn
 too-long text h = rw (lt-leb (length text) lineMost h)
-
--- with a fault, and without one
-with-fault : (n : Name) (fields : List (List ℕ)) (fault : ℕ) → fault ≡ faultFor n fields → (fault ≡ 0 → ⊥)
-    → namedLine n fields ≡ faulty fault
-unfolding namedLine
-with-fault n fields zero e h = absurd (h refl)
-with-fault n fields (suc fault) e h = rw (← e)
-
-without-fault : (n : Name) (fields : List (List ℕ)) (fault : ℕ) → fault ≡ faultFor n fields → fault ≡ 0
-    → namedLine n fields ≡ commandFor n fields
-unfolding namedLine
-without-fault n fields fault e z = rw (← e, z)
 
 module _ (text : List ℕ) (start end : ℕ) (short : length text ≤ lineMost) (f : IsFirstField text start end) where
   by-fields : lineIn text ≡ lineOf (fieldsOf text)
@@ -52,31 +43,25 @@ module _ (text : List ℕ) (start end : ℕ) (short : length text ≤ lineMost) 
 
     -- a command, by its name and the fault of the fields after it
     module _ (e : eqb (getD text start 0) 35 ≡ false) (n : Name) (named : n ≡ nameIn (between start end text))
-        (fault : ℕ) (found-fault : fault ≡ faultFor n (fieldsOf (drop end text))) where
+        (found : Finding) (is-found : found ≡ faultFor n (fieldsOf (drop end text))) where
       a-command : lineIn text ≡ namedLine n (fieldsOf (drop end text))
       unfolding lineOf
       a-command = by-fields ∙ ap lineOf (one-found f some) ∙ rw (comment-found f some, e, ← named)
 
-      pub a-fault : (fault ≡ 0 → ⊥) → lineIn text ≡ faulty fault
-      a-fault some-fault = a-command ∙ with-fault n (fieldsOf (drop end text)) fault found-fault some-fault
+      pub a-fault : {fault : Fault} → found ≡ finding.Is fault → lineIn text ≡ faulty fault
+      unfolding namedLine
+      a-fault is = a-command ∙ rw (← is-found, is)
 
-      pub no-fault : fault ≡ 0 → lineIn text ≡ commandFor n (fieldsOf (drop end text))
-      no-fault none = a-command ∙ without-fault n (fieldsOf (drop end text)) fault found-fault none
+      pub no-fault : found ≡ finding.NoFault → lineIn text ≡ commandFor n (fieldsOf (drop end text))
+      unfolding namedLine
+      no-fault none = a-command ∙ rw (← is-found, none)
 
 -- a line feed follows the reply to a command
 line-feed : (c : Chart) (n : Name) (fields : List (List ℕ))
     → replyToLine c (commandFor n fields) ++ (10 ∷ []) ≡ answerToLine c (commandFor n fields)
 unfolding commandFor
-line-feed c name.Word fields = refl
-line-feed c name.Build fields = refl
-line-feed c name.Post fields = refl
-line-feed c name.Reanalyse fields = refl
-line-feed c name.Correct fields = refl
-line-feed c name.Renew fields = refl
-line-feed c name.Lines fields = refl
-line-feed c name.Write fields = refl
-line-feed c name.Read fields = refl
-line-feed c name.Show fields = refl
+line-feed c (name.Changes change) fields = refl
+line-feed c (name.Asks inquiry) fields = refl
 line-feed c name.Other fields = refl
 
 pub line-fed : (c : Chart) (n : Name) (fields : List (List ℕ)) {next : Chart} {before between after : List ℕ} {middle size : ℕ}

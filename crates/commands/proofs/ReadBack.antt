@@ -8,12 +8,12 @@ use native.Mathlib.Omega.{arith}
 use borrow.Author.Tests.{le-leb, lt-leb, ltb-true, ltb-false, eq-eqb, ne-eqb}
 use lib.Dec.{ltb}
 use lib.ListN.{length, length-append}
-use Rattle.guide.specs.Sizes.{baseMost, seriesMost}
-use Rattle.guide.specs.StoredForm.{storedForm}
-use Rattle.guide.proofs.Booleans.{by-test}
-use Rattle.guide.proofs.Soundness.{sound-facts}
-use Rattle.guide.proofs.Reading.{length-form, read-stored}
-use Rattle.guide.proofs.StoredForm.{AllBelow, stored-bytes}
+use Rattle.rules.specs.Sizes.{baseMost, seriesMost}
+use Rattle.rules.specs.StoredForm.{storedForm}
+use Rattle.rules.proofs.Booleans.{by-test}
+use Rattle.rules.proofs.Soundness.{sound-facts}
+use Rattle.rules.proofs.ReadForm.{length-form, read-stored}
+use Rattle.rules.proofs.StoredForm.{AllBelow, stored-bytes}
 use Rattle.chart.specs.declared.Chart.{Chart}
 use Rattle.chart.specs.Chart.{stateOf}
 use Rattle.chart.specs.Soundness.{soundChart}
@@ -26,7 +26,8 @@ use Rattle.printing.specs.Hex.{hexDigit, hexOf}
 use Rattle.printing.proofs.HexDigits.{hex-length, hex-figure, hex-letter}
 use Rattle.printing.specs.Ascii.{ascii}
 use Rattle.replies.specs.Texts.{bytesText, readingText}
-use Rattle.commands.specs.Command.{lineMost, asked, readFault, hexFault, faultFor, commandFor, nameIn, namedLine, lineOf, lineIn}
+use Rattle.commands.specs.declared.faults.Finding.the-variants as finding
+use Rattle.commands.specs.Command.{lineMost, asked, readFault, hexFault, commandFor, nameIn, namedLine, lineOf, lineIn}
 use Rattle.commands.specs.Command as command
 use Rattle.commands.specs.Reply.{replyTo, chartRead, chartAfterCommand}
 
@@ -110,7 +111,7 @@ module _ (b : ℕ) (bytes : List ℕ) (h : AllBelow 256 (b ∷ bytes)) where
   unfolding fieldsOf isBlank
   fields-are = ap (λ (fields : List (List ℕ)). ascii "read" ∷ fields) (hex-field b bytes (h .0) (h .1))
 
-  no-fault : readFault (hexOf (b ∷ bytes) ∷ []) ≡ 0
+  no-fault : readFault (hexOf (b ∷ bytes) ∷ []) ≡ finding.NoFault
   unfolding readFault hexFault
   no-fault =
       let digits = hexOf (b ∷ bytes) in
@@ -118,7 +119,7 @@ module _ (b : ℕ) (bytes : List ℕ) (h : AllBelow 256 (b ∷ bytes)) where
       rw (hex-is-hex (b ∷ bytes) h, eq-eqb (length digits % 2) 0 even)
 
   fields-read : lineOf (ascii "read" ∷ hexOf (b ∷ bytes) ∷ []) ≡ asked (command.read (b ∷ bytes))
-  unfolding lineOf nameIn namedLine faultFor commandFor sameBytes
+  unfolding lineOf nameIn namedLine commandFor sameBytes
   fields-read = rw (no-fault, hex-back (b ∷ bytes) h)
 
 -- at most 4,000 bytes, which fit in a line

@@ -16,37 +16,35 @@ use borrow.Author.Needs.{sfits-of}
 use denote.Shadow.{shadow}
 use denote.Array.{each}
 use denote.Signed.{SInt}
-use Rattle.guide.specs.Sizes.{baseMost, seriesMost}
-use Rattle.guide.specs.Kind.{isKind, inRange}
-use Rattle.guide.specs.Word.{wordAlone, fromReading}
-use Rattle.guide.specs.Word as word
-use Rattle.guide.specs.Building.{building}
-use Rattle.guide.specs.State.{State, limitsFor}
-use Rattle.guide.specs.Machine.{Call, posting, reanalysing, correcting, step}
-use Rattle.guide.specs.Machine as machine
-use Rattle.guide.specs.StoredForm.{storedForm}
-use Rattle.guide.specs.Reading.{reading, isForm, heldIn}
-use Rattle.guide.specs.Reading as guideReading
-use Rattle.guide.specs.Soundness.{sound}
-use Rattle.guide.specs.ChartLines as chartLines
-use Rattle.guide.proofs.Choice.{choose-ind, require-ind}
-use Rattle.guide.proofs.Kind.{in-range-few}
-use Rattle.guide.proofs.Building.{building-ind}
-use Rattle.guide.proofs.Verdict.{verdict-at-most-four}
-use Rattle.guide.proofs.Soundness.{sound-facts}
-use Rattle.guide.proofs.Machine.{reading-ind, step-ind, renewing-small}
-use Rattle.guide.proofs.Reading.{length-form}
+use Rattle.rules.specs.Outcome.{refused}
+use Rattle.rules.specs.Sizes.{baseMost, seriesMost}
+use Rattle.rules.specs.Kind.{isKind, inRange}
+use Rattle.rules.specs.Word.{wordAlone, fromReading}
+use Rattle.rules.specs.Building.{building}
+use Rattle.rules.specs.State.{State, limitsFor}
+use Rattle.rules.specs.Machine.{Call, posting, reanalysing, correcting, step}
+use Rattle.rules.specs.Machine as machine
+use Rattle.rules.specs.StoredForm.{storedForm}
+use Rattle.rules.specs.ReadForm.{reading, isForm, heldIn}
+use Rattle.rules.specs.Soundness.{sound}
+use Rattle.rules.proofs.Choice.{choose-ind, require-ind}
+use Rattle.rules.proofs.Kind.{in-range-few}
+use Rattle.rules.proofs.Building.{building-ind}
+use Rattle.rules.proofs.Verdict.{verdict-at-most-four}
+use Rattle.rules.proofs.Machine.{reading-ind, step-ind, renewing-small}
 use Rattle.chart.specs.declared.Chart.{Chart}
 use Rattle.chart.specs.Chart.{stateOf}
 use Rattle.chart.specs.Calls.{answerTo}
 use Rattle.chart.specs.Soundness.{soundChart}
 use Rattle.chart.proofs.SoundCharts.{sound-chart-facts}
 use Rattle.lines.specs.Lines.{answerToLines}
-use Rattle.printing.proofs.Putting.{puts-front}
+use Rattle.printing.proofs.Putting.{puts-room}
 use Rattle.replies.specs.Texts.{refusalText, answerText, bytesText, stateText}
 use Rattle.replies.proofs.Lengths.{Short, ShortFormed, ShortBuilding, ShortAnswer, ShortReading, ShortLines, ShortWords, ShortState}
 use Rattle.replies.proofs.Lengths.{refusal-length, formed-length, building-length, answer-length, reading-length, lines-length}
 use Rattle.replies.proofs.Lengths.{bytes-length, state-length, fault-length}
+use Rattle.store.specs.Store.{formMost}
+use Rattle.store.proofs.Writing.{form-within}
 use Rattle.commands.specs.declared.Answered.{Answered}
 use Rattle.commands.specs.Command.{Command, Line}
 use Rattle.commands.specs.Command as command
@@ -61,13 +59,13 @@ word-short kind w r = omega (arith, in-range-few kind w r)
 formed-short : (kind : ℕ) (a b c : ℤ) → ShortFormed (wordAlone kind a b c)
 unfolding wordAlone
 formed-short kind a b c =
-    require-ind ShortFormed (isKind kind) (word.refused 1) (fromReading kind a b c)
+    require-ind ShortFormed (isKind kind) (refused 1) (fromReading kind a b c)
     (λ _. reading-ind kind a b c ShortFormed (word-short kind) (λ n h. omega (arith, h .small)))
     (λ _. lit< tt)
 
 building-short : (kind : ℕ) (words : List ℤ) → ShortBuilding (building kind words)
 building-short kind words =
-    building-ind kind words ShortBuilding (λ n _ h. omega arith) (λ s rounds removed h k. (omega arith, omega arith))
+    building-ind kind words ShortBuilding (λ n _ h. omega arith) (λ b h k. (omega arith, omega arith))
 
 step-short : (s : State) (call : Call) → ShortAnswer (step s call .answer)
 unfolding posting reanalysing correcting
@@ -87,22 +85,19 @@ answer-short c call =
 
 lines-short : (c : Chart) → ShortLines (answerToLines c)
 unfolding answerToLines
-lines-short c = require-ind ShortLines (soundChart c) (chartLines.refused 14) _ (λ _. tt) (λ _. lit< tt)
+lines-short c = require-ind ShortLines (soundChart c) (refused 14) _ (λ _. tt) (λ _. lit< tt)
 
 reading-short : (bytes : List ℕ) → ShortReading (reading bytes)
 unfolding reading
 reading-short bytes =
-    require-ind ShortReading (isForm bytes) (guideReading.refused 13) _
-    (λ _. require-ind ShortReading (sound (heldIn bytes)) (guideReading.refused 14) _ (λ _. tt) (λ _. lit< tt))
+    require-ind ShortReading (isForm bytes) (refused 13) _
+    (λ _. require-ind ShortReading (sound (heldIn bytes)) (refused 14) _ (λ _. tt) (λ _. lit< tt))
     (λ _. lit< tt)
 
--- ---- a stored form has at most 814 bytes
+-- ---- a stored form is no longer than the longest
 
-form-length : (c : Chart) → soundChart c ≡ true → length (storedForm (stateOf c)) ≤ 814
-form-length c t =
-    let s = stateOf c in
-    let facts = sound-facts s (sound-chart-facts c t .state) in
-    omega (arith, length-form s, facts .base-most, facts .series-most)
+form-length : (c : Chart) → soundChart c ≡ true → length (storedForm (stateOf c)) ≤ formMost
+form-length c t = form-within (stateOf c) (sound-chart-facts c t .state)
 
 write-length : (c : Chart) → length (replyTo c command.write) < answerMost
 unfolding replyTo
@@ -192,7 +187,5 @@ in-full {before} chart t line r answers =
     let text = answerToLine chart line in
     let short = answer-room chart t line in (
       answers,
-      λ room.
-          let front = puts-front text (omega arith) (answers .text) in
-          record { buffer = front .bytes ∙ ap (λ (n : ℕ). text ++ drop n before) (sym (front .place)); counted = front .place },
+      λ room. puts-room text (omega arith) (answers .text),
     )

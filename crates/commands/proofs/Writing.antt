@@ -7,17 +7,20 @@ use Prim.Native.Nat.{ℕ, _≤_}
 use native.Mathlib.Omega.{arith}
 use borrow.Author.Tests.{le-leb}
 use lib.ListN.{length, take}
-use Rattle.guide.specs.Choice.{require}
-use Rattle.guide.specs.Sizes.{baseMost, seriesMost}
-use Rattle.guide.specs.StoredForm.{wrote, storedForm, hasRoom, writing}
-use Rattle.guide.specs.StoredForm as form
+use Rattle.rules.specs.Outcome.{given, refused}
+use Rattle.rules.specs.Choice.{require}
+use Rattle.rules.specs.Sizes.{baseMost, seriesMost}
+use Rattle.rules.specs.StoredForm.{storedForm, formFits, writing}
+use Rattle.rules.specs.StoredForm as form
+use Rattle.rules.proofs.Booleans.{zero-not-one}
+use Rattle.rules.proofs.Outcome.{given-not-refused}
 use Rattle.chart.specs.declared.Chart.{Chart}
 use Rattle.chart.specs.Chart.{stateOf}
 use Rattle.chart.specs.Soundness.{soundChart}
-use Rattle.chart.proofs.State.{Given, given}
+use Rattle.chart.proofs.State as state
 use Rattle.store.specs.declared.WriteAnswer.the-variants.{Done, Refused}
-use Rattle.store.specs.Store.{writeSays, answerToWrite, recordSize, formSize, Writes}
-use Rattle.store.proofs.Writing.{form-size}
+use Rattle.store.specs.Store.{writeSays, answerToWrite, formMost, Writes}
+use Rattle.store.proofs.Writing.{form-within}
 use Rattle.store.proofs.Returning.{written-sound, written-form}
 use Rattle.printing.specs.Output.{Puts}
 use Rattle.replies.specs.Texts.{refusalText, bytesText}
@@ -31,24 +34,20 @@ form-replied c before after n w {start} {end} {size} puts =
     rw (written-sound c before after n w)
     (subst (λ (x : List ℕ). Puts start 0 (bytesText x) end size) (written-form c before after n w) puts)
 
--- a sound chart's form has at most 814 bytes
-form-small : (c : Chart) → Given c → length (storedForm (stateOf c)) ≤ 814
-unfolding formSize recordSize
-form-small c g = omega (arith, form-size c g, g .within .base-few, g .within .series-few)
-
 -- if there is room, the only refusal is 14
 declined-by : (whole room : Bool) (size n : ℕ) → (whole ≡ true → room ≡ true)
-    → form.refused n ≡ require whole (form.refused 14) (require room (form.refused 15) (wrote size)) → (whole ≡ false) × (n ≡ 14)
-declined-by true true size n h e = let z : _≡_ {A = ℕ} 0 1 = cc in absurd (omega arith)
-declined-by true false size n h e = let z : true ≡ false = sym (h refl) in let y : _≡_ {A = ℕ} 0 1 = cc in absurd (omega arith)
+    → refused n ≡ require whole (refused 14) (require room (refused 15) (given size)) → (whole ≡ false) × (n ≡ 14)
+declined-by true true size n h e = given-not-refused (sym e)
+declined-by true false size n h e = let z : true ≡ false = sym (h refl) in zero-not-one cc
 declined-by false room size n h e = (refl, cc)
 
 pub refusal-replied : (c : Chart) (before after : List ℕ) (n : ℕ) → length (c .base) ≡ baseMost → length (c .series) ≡ seriesMost
-    → 814 ≤ length before → Writes c before after (Refused n)
+    → formMost ≤ length before → Writes c before after (Refused n)
     → {start end : List ℕ} {size : ℕ} → Puts start 0 (refusalText n) end size → Puts start 0 (replyTo c command.write) end size
-unfolding replyTo writeSays answerToWrite writing hasRoom
+unfolding replyTo writeSays answerToWrite writing formFits
 refusal-replied c before after n base series room w {start} {end} {size} puts =
-    let enough : soundChart c ≡ true → hasRoom (stateOf c) before ≡ true =
-    λ t. le-leb (length (storedForm (stateOf c))) (length before) (omega (arith, form-small c (given c base series t))) in
-    let facts = declined-by (soundChart c) (hasRoom (stateOf c) before) (length (storedForm (stateOf c))) n enough (w .says) in
+    let enough : soundChart c ≡ true → formFits (stateOf c) before ≡ true =
+    λ t. le-leb (length (storedForm (stateOf c))) (length before)
+    (omega (arith, form-within (stateOf c) (state.given c base series t .facts .state))) in
+    let facts = declined-by (soundChart c) (formFits (stateOf c) before) (length (storedForm (stateOf c))) n enough (w .says) in
     rw (facts .0) (subst (λ (k : ℕ). Puts start 0 (refusalText k) end size) (facts .1) puts)

@@ -1,14 +1,14 @@
 -- What a command on a chart replies, as text, and the chart after it.
 use mathlib.Core.List.{List, [], _∷_, _++_}
 use Prim.Native.Nat.{ℕ}
-use Rattle.guide.specs.Choice.{require}
-use Rattle.guide.specs.Word.{wordAlone}
-use Rattle.guide.specs.Building.{BuildingAnswer, building}
-use Rattle.guide.specs.Building as guideBuilding
-use Rattle.guide.specs.Machine as machine
-use Rattle.guide.specs.StoredForm.{storedForm}
-use Rattle.guide.specs.Reading.{ReadingAnswer, reading}
-use Rattle.guide.specs.Reading as guideReading
+use Rattle.rules.specs.Outcome.{Outcome, given, refused}
+use Rattle.rules.specs.State.{State}
+use Rattle.rules.specs.Choice.{require}
+use Rattle.rules.specs.Word.{wordAlone}
+use Rattle.rules.specs.Building.{BuiltState, building}
+use Rattle.rules.specs.Machine as machine
+use Rattle.rules.specs.StoredForm.{storedForm}
+use Rattle.rules.specs.ReadForm.{reading}
 use Rattle.chart.specs.declared.Chart.{Chart}
 use Rattle.chart.specs.Chart.{stateOf, chartOf}
 use Rattle.chart.specs.Calls.{nextChart, answerTo}
@@ -36,13 +36,13 @@ replyTo chart command.show = stateText (stateOf chart)
 -- ---- the chart after it
 
 -- a refused `build` or `read` does not change the chart
-abbrev pub chartBuilt : Chart → BuildingAnswer → Chart
-chartBuilt chart (guideBuilding.built s rounds removed) = chartOf s
-chartBuilt chart (guideBuilding.refused n) = chart
+abbrev pub chartBuilt : Chart → Outcome BuiltState → Chart
+chartBuilt chart (given b) = chartOf (b .state)
+chartBuilt chart (refused n) = chart
 
-abbrev pub chartRead : Chart → ReadingAnswer → Chart
-chartRead chart (guideReading.taken s) = chartOf s
-chartRead chart (guideReading.refused n) = chart
+abbrev pub chartRead : Chart → Outcome State → Chart
+chartRead chart (given s) = chartOf s
+chartRead chart (refused n) = chart
 
 unfoldable pub chartAfterCommand : Chart → Command → Chart
 chartAfterCommand chart (command.word kind a b c) = chart

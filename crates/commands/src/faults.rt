@@ -1,159 +1,163 @@
-// The first fault in the fields of a line from a byte on, from left to right. 0 means no fault.
+// The first fault in the fields of a line from a byte on, from left to right.
+use crate::names::Change;
+use crate::names::Inquiry;
 use crate::names::Name;
 use crate::numbers::NumberAt;
-use crate::numbers::number_at;
-use parsing::fields::first_field;
+use crate::numbers::field_at;
+use crate::numbers::number_field_at;
 use parsing::hex::are_hex;
 use parsing::numbers::Number;
+use replies::Fault;
 ghost use mathlib.Core.Path.{_≡_};
 ghost use Prim.Native.Nat.{_≤_};
 ghost use lib.ListN.{length};
-ghost use Rattle.replies.specs.Faults.{orElse};
-ghost use Rattle.commands.specs.Command.{numberFault, readingFault, endFault, readingsFault, wordsFault, buildFault};
-ghost use Rattle.commands.specs.Command.{hexFault, readFault, faultFor};
+ghost use Rattle.commands.specs.Command.{orElse, fieldFault, endFault, readingsFault, wordsFault, buildFault};
+ghost use Rattle.commands.specs.Command.{hexFault, readFault, changeFault, inquiryFault, faultFor};
 ghost use Rattle.commands.specs.Answers.{fieldsFrom, faultAt};
 
-pub const UNKNOWN_COMMAND: u8 = 1;
-
-pub const MISSING_NUMBER: u8 = 2;
-
-pub const EXTRA_NUMBER: u8 = 3;
-
-pub const NOT_A_NUMBER: u8 = 4;
-
-pub const NUMBER_TOO_LARGE: u8 = 5;
-
-pub const NOT_A_HEX_DIGIT: u8 = 6;
-
-pub const ODD_HEX_DIGITS: u8 = 7;
-
-pub const LINE_TOO_LONG: u8 = 8;
+// What is found in the fields: no fault, or the first one.
+pub enum Finding {
+    NoFault,
+    Is(Fault),
+}
 
 // The fault of the fields after a name.
-pub fn fault_for(name: Name, line: &[u8], at: usize) -> u8
+pub fn fault_for(name: Name, line: &[u8], at: usize) -> Finding
     requires { ⌜ at ≤ length (now line) ⌝ }
     ensures { λ r. ⌜ r ≡ faultFor name (fieldsFrom (now (line .entry)) at) ⌝ }
 {
     match name {
-        Name::Word => readings_fault(line, at),
-        Name::Build => build_fault(line, at),
-        Name::Post => readings_fault(line, at),
-        Name::Reanalyse => readings_fault(line, at),
-        Name::Correct => end_fault(line, at),
-        Name::Renew => end_fault(line, at),
-        Name::Lines => end_fault(line, at),
-        Name::Write => end_fault(line, at),
-        Name::Read => read_fault(line, at),
-        Name::Show => end_fault(line, at),
-        Name::Other => UNKNOWN_COMMAND,
+        Name::Changes(change) => change_fault(change, line, at),
+        Name::Asks(inquiry) => inquiry_fault(inquiry, line, at),
+        Name::Other => Finding::Is(Fault::UnknownCommand),
+    }
+}
+
+fn change_fault(change: Change, line: &[u8], at: usize) -> Finding
+    requires { ⌜ at ≤ length (now line) ⌝ }
+    ensures { λ r. ⌜ r ≡ changeFault change (fieldsFrom (now (line .entry)) at) ⌝ }
+{
+    match change {
+        Change::Build => build_fault(line, at),
+        Change::Post => readings_fault(line, at),
+        Change::Reanalyse => readings_fault(line, at),
+        Change::Correct => end_fault(line, at),
+        Change::Renew => end_fault(line, at),
+        Change::Read => read_fault(line, at),
+    }
+}
+
+fn inquiry_fault(inquiry: Inquiry, line: &[u8], at: usize) -> Finding
+    requires { ⌜ at ≤ length (now line) ⌝ }
+    ensures { λ r. ⌜ r ≡ inquiryFault inquiry (fieldsFrom (now (line .entry)) at) ⌝ }
+{
+    match inquiry {
+        Inquiry::Word => readings_fault(line, at),
+        Inquiry::Lines => end_fault(line, at),
+        Inquiry::Write => end_fault(line, at),
+        Inquiry::Show => end_fault(line, at),
     }
 }
 
 // The command takes a kind and three readings, and nothing more.
-fn readings_fault(line: &[u8], at: usize) -> u8
+fn readings_fault(line: &[u8], at: usize) -> Finding
     requires { ⌜ at ≤ length (now line) ⌝ }
     ensures { λ r. ⌜ r ≡ readingsFault (fieldsFrom (now (line .entry)) at) ⌝ }
 {
-    let kind = number_at(line, at);
-    let a = number_at(line, kind.next);
-    let b = number_at(line, a.next);
-    let c = number_at(line, b.next);
-    let fault_behind_b = or_else(reading_fault(c), end_fault(line, c.next));
-    let fault_behind_a = or_else(reading_fault(b), fault_behind_b);
-    let fault_behind_kind = or_else(reading_fault(a), fault_behind_a);
-    or_else(number_fault(kind), fault_behind_kind)
+    let kind = number_field_at(line, at);
+    let a = number_field_at(line, kind.next);
+    let b = number_field_at(line, a.next);
+    let c = number_field_at(line, b.next);
+    let too_large = Finding::Is(Fault::NumberTooLarge);
+    let fault_behind_b = or_else(field_fault(c, too_large), end_fault(line, c.next));
+    let fault_behind_a = or_else(field_fault(b, too_large), fault_behind_b);
+    let fault_behind_kind = or_else(field_fault(a, too_large), fault_behind_a);
+    or_else(field_fault(kind, Finding::NoFault), fault_behind_kind)
 }
 
 // The command takes a kind and words.
-fn build_fault(line: &[u8], at: usize) -> u8
+fn build_fault(line: &[u8], at: usize) -> Finding
     requires { ⌜ at ≤ length (now line) ⌝ }
     ensures { λ r. ⌜ r ≡ buildFault (fieldsFrom (now (line .entry)) at) ⌝ }
 {
-    let kind = number_at(line, at);
-    or_else(number_fault(kind), words_fault(line, kind.next))
+    let kind = number_field_at(line, at);
+    or_else(
+        field_fault(kind, Finding::NoFault),
+        words_fault(line, kind.next),
+    )
 }
 
-fn words_fault(line: &[u8], at: usize) -> u8
+fn words_fault(line: &[u8], at: usize) -> Finding
     requires { ⌜ at ≤ length (now line) ⌝ }
     ensures { λ r. ⌜ r ≡ wordsFault (fieldsFrom (now (line .entry)) at) ⌝ }
 {
-    let mut n = number_at(line, at);
+    let mut n = number_field_at(line, at);
     while n.present {
-        let fault = number_fault(n);
-        if fault != 0 {
-            return fault;
+        let fault = field_fault(n, Finding::NoFault);
+        match fault {
+            Finding::Is(_) => return fault,
+            Finding::NoFault => n = number_field_at(line, n.next),
         }
-        n = number_at(line, n.next);
     }
-    0
+    Finding::NoFault
 }
 
 // The command takes at most one field, of hex digits.
-fn read_fault(line: &[u8], at: usize) -> u8
+fn read_fault(line: &[u8], at: usize) -> Finding
     requires { ⌜ at ≤ length (now line) ⌝ }
     ensures { λ r. ⌜ r ≡ readFault (fieldsFrom (now (line .entry)) at) ⌝ }
 {
-    let rest = &line[at..];
-    let field = first_field(rest);
+    let field = field_at(line, at);
     let start = field.start;
     let end = field.end;
-    or_else(hex_fault(&rest[start..end]), end_fault(rest, end))
+    or_else(hex_fault(&line[start..end]), end_fault(line, end))
 }
 
-fn hex_fault(text: &[u8]) -> u8
+fn hex_fault(text: &[u8]) -> Finding
     ensures { λ r. ⌜ r ≡ hexFault (now (text .entry)) ⌝ }
 {
     if !are_hex(text) {
-        return NOT_A_HEX_DIGIT;
+        return Finding::Is(Fault::NotAHexDigit);
     }
     if text.len() % 2 != 0 {
-        return ODD_HEX_DIGITS;
+        return Finding::Is(Fault::OddHexDigits);
     }
-    0
+    Finding::NoFault
 }
 
 // The command takes no more fields.
-fn end_fault(line: &[u8], at: usize) -> u8
+fn end_fault(line: &[u8], at: usize) -> Finding
     requires { ⌜ at ≤ length (now line) ⌝ }
     ensures { λ r. ⌜ r ≡ endFault (fieldsFrom (now (line .entry)) at) ⌝ }
 {
-    let n = number_at(line, at);
-    if n.present { EXTRA_NUMBER } else { 0 }
+    let n = number_field_at(line, at);
+    if n.present {
+        return Finding::Is(Fault::ExtraNumber);
+    }
+    Finding::NoFault
 }
 
-// ---- the fault of one number that the command takes
-
-fn number_fault(n: NumberAt) -> u8
-    ensures { λ r. ⌜ r ≡ faultAt numberFault n ⌝ }
+// The fault of a number that the command takes. `beyond` is found if it does not fit a signed 64-bit number.
+fn field_fault(n: NumberAt, beyond: Finding) -> Finding
+    ensures { λ r. ⌜ r ≡ faultAt (fieldFault beyond) n ⌝ }
 {
     if !n.present {
-        return MISSING_NUMBER;
+        return Finding::Is(Fault::MissingNumber);
     }
     let number = n.number;
     match number {
-        Number::NoNumber => NOT_A_NUMBER,
-        Number::Beyond => 0,
-        Number::Whole(_) => 0,
+        Number::NoNumber => Finding::Is(Fault::NotANumber),
+        Number::Beyond => beyond,
+        Number::Whole(_) => Finding::NoFault,
     }
 }
 
-fn reading_fault(n: NumberAt) -> u8
-    ensures { λ r. ⌜ r ≡ faultAt readingFault n ⌝ }
-{
-    if !n.present {
-        return MISSING_NUMBER;
-    }
-    let number = n.number;
-    match number {
-        Number::NoNumber => NOT_A_NUMBER,
-        Number::Beyond => NUMBER_TOO_LARGE,
-        Number::Whole(_) => 0,
-    }
-}
-
-// The first of two faults.
-fn or_else(fault: u8, later: u8) -> u8
+// The first of two findings.
+fn or_else(fault: Finding, later: Finding) -> Finding
     ensures { λ r. ⌜ r ≡ orElse fault later ⌝ }
 {
-    if fault != 0 { fault } else { later }
+    match fault {
+        Finding::Is(_) => fault,
+        Finding::NoFault => later,
+    }
 }

@@ -8,13 +8,13 @@ use borrow.Author.Tests.{lt-leb}
 use lib.Dec.{eqb}
 use lib.ListN.{length, take, drop, length-take, length-drop}
 use lib.Seq.{take-all}
-use Rattle.guide.proofs.Choice.{choose-ind}
-use Rattle.guide.proofs.Integers.{by-order}
+use Rattle.rules.proofs.Choice.{choose-ind}
+use Rattle.rules.proofs.Integers.{by-order}
 use Rattle.parsing.specs.Fields.{withoutReturn, IsWithoutReturn}
 use Rattle.parsing.specs.Text.{withoutMark, IsWithoutMark}
 use Rattle.parsing.proofs.FrontEnd.{without-mark-length}
 use Rattle.commands.specs.Command.{lineMost, faulty, lineIn}
-use Rattle.replies.specs.Faults.{lineTooLong}
+use Rattle.replies.specs.declared.Fault.the-variants as faults
 use Rattle.control_chart.specs.Input.{lineRoom, endedLine}
 
 -- the first n bytes, and of those the bytes from `at` on
@@ -34,7 +34,7 @@ without-return-length (b ∷ []) =
 without-return-length (b ∷ next ∷ rest) = omega (arith, without-return-length (next ∷ rest))
 
 -- .. and with the mark at most four
-too-long : (line : List ℕ) → lineMost + 4 < length line → endedLine line ≡ faulty lineTooLong
+too-long : (line : List ℕ) → lineMost + 4 < length line → endedLine line ≡ faulty faults.LineTooLong
 unfolding endedLine lineIn
 too-long line h =
     let left = withoutMark (withoutReturn line) in

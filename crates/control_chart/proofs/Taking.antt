@@ -4,16 +4,16 @@
 use mathlib.Core.Path.{_≡_, refl, sym, ap, _∙_}
 use mathlib.Core.Bool.{Bool, true, false, not, false≢true}
 use mathlib.Core.List.{List, [], _∷_, _++_, append-assoc, append-nil}
-use Prim.Native.Nat.{ℕ, suc, _+_, _-_, _<_, _≤_}
+use Prim.Native.Nat.{ℕ, suc, _+_, _-_, _<_, _≤_, zero-le}
 use native.Mathlib.Omega.{arith}
 use borrow.Author.Tests.{lt-ltb, le-ltb, eqb-true, not-true}
 use lib.Dec.{eqb, ltb}
 use lib.ListN.{length, take, drop, getD, length-append, length-take, length-drop}
 use lib.Seq.{take-all, take-nil, take-suc, take-add, take-at, take-append-le}
 use Rattle.bytes.specs.Bytes.{slice, indexAfter, indexOf}
-use Rattle.guide.specs.Choice.{choose}
-use Rattle.guide.proofs.Booleans.{by-test}
-use Rattle.guide.proofs.Integers.{by-order}
+use Rattle.rules.specs.Choice.{choose}
+use Rattle.rules.proofs.Booleans.{by-test}
+use Rattle.rules.proofs.Integers.{by-order}
 use Rattle.chart.specs.declared.Chart.{Chart}
 use Rattle.chart.specs.Chart.{zeroChart}
 use Rattle.parsing.specs.Bytes.{sameBytes}
@@ -26,8 +26,8 @@ use Rattle.printing.proofs.Putting.{puts-length, puts-cut}
 use Rattle.control_chart.specs.declared.input.Pending.{Pending}
 use Rattle.control_chart.specs.declared.input.AfterRead.{AfterRead}
 use Rattle.control_chart.specs.Input.{SoFar, soFar, atStart, endedLine, afterLine, afterEnded, withPart, withByte, withBytes}
-use Rattle.control_chart.specs.Input.{unlessFailed, atEnd, lineRoom, Holds, HasRoom, IsAfter, EndsLine}
-use Rattle.control_chart.specs.Input.{Taken, Came, IsRead, IsEnd}
+use Rattle.control_chart.specs.Input.{unlessFailed, atEnd, lineRoom, HoldsInput, Follows, HasRoom, CanTake, IsAfter, EndsLine}
+use Rattle.control_chart.specs.Input.{Taken, Came, IsInputRead, IsEnd}
 use Rattle.control_chart.proofs.Cutting.{cut-line}
 
 -- ---- bytes, one read after the other
@@ -133,10 +133,10 @@ unfolding unlessFailed
 not-told s told e = ap (λ (t : Bool). unlessFailed (not t) s) e
 
 module _ {s : SoFar} {q : Pending} {buffer : List ℕ} (told : q .told ≡ true) where
-  pub unless-told : Holds s q buffer → Holds (unlessFailed (not (q .told)) s) q buffer
+  pub unless-told : HoldsInput s q buffer → HoldsInput (unlessFailed (not (q .told)) s) q buffer
   unless-told held = rw (was-told s (q .told) told) held
 
-  pub held-told : Holds (unlessFailed (not (q .told)) s) q buffer → Holds s q buffer
+  pub held-told : HoldsInput (unlessFailed (not (q .told)) s) q buffer → HoldsInput s q buffer
   held-told held = rw (was-told s (q .told) told) at held
 
 -- the line that has ended is the same, whole or cut to the buffer
@@ -146,7 +146,7 @@ unfolding afterEnded
 ended-same {n = n} s p line chart status bytes room = rw (chart, status, bytes, cut-line n line room)
 
 -- the next line begins
-after-held : (s : SoFar) (r : Pending) (buffer : List ℕ) → s .line ≡ [] → IsAfter s r → Holds (unlessFailed (not (r .told)) s) r buffer
+after-held : (s : SoFar) (r : Pending) (buffer : List ℕ) → s .line ≡ [] → IsAfter s r → HoldsInput (unlessFailed (not (r .told)) s) r buffer
 after-held s r buffer empty after =
     let none : take (r .len) buffer ≡ take (length buffer) [] = rw (after .none, take-nil) in
     by-test (r .told)
@@ -174,7 +174,7 @@ cut-front n x y =
     (λ h. ap (λ (l : List ℕ). take n (l ++ y)) (take-all n x h))
     (λ h. take-at (take n x) y n (omega (arith, length-take n x)) ∙ sym (take-append-le n x y (omega arith)))
 
-module _ {before after part : List ℕ} {next : ℕ} (s : SoFar) (p : Pending) (held : Holds s p before)
+module _ {before after part : List ℕ} {next : ℕ} (s : SoFar) (p : Pending) (held : HoldsInput s p before)
     (puts : Puts before (p .len) part after next) where
   within : p .len ≤ length before
   within = omega (arith, held .count)
@@ -186,7 +186,7 @@ module _ {before after part : List ℕ} {next : ℕ} (s : SoFar) (p : Pending) (
       ∙ cut-front (length before) (s .line) part
 
   -- the line goes on
-  pub held-part : Holds (unlessFailed false (withPart s part false))
+  pub held-part : HoldsInput (unlessFailed false (withPart s part false))
       (record { chart = p .chart; len = next; status = p .status; told = true }) after
   unfolding withPart unlessFailed
   held-part =
@@ -200,19 +200,42 @@ module _ {before after part : List ℕ} {next : ℕ} (s : SoFar) (p : Pending) (
 
   -- the line ends
   pub held-end : (r : Pending) → lineRoom ≤ length before → EndsLine p (take next after) r
-      → Holds (unlessFailed (not (r .told)) (withPart s part true)) r after
+      → HoldsInput (unlessFailed (not (r .told)) (withPart s part true)) r after
   unfolding withPart afterEnded afterLine
   held-end r room ended =
       let line = s .line ++ part in
       after-held (afterEnded s line) r after refl (rw (ended-same s p line (held .chart) (held .status) line-held room) at ended)
 
+-- ---- a turn of the loop over the bytes of a read
+
+-- the bytes up to `at` were taken, and every answer was written
+pub record TakenTo (bytes : List ℕ) (at : ℕ) (p : Pending) (before : List ℕ) (q : Pending) (after : List ℕ) : Type 0 where
+  pub place : at ≤ length bytes
+  pub can : CanTake q after
+  pub same-size : length after ≡ length before
+  pub follows : Follows (λ s. withBytes s (take at bytes)) p before q after
+
+pub none-taken : {p : Pending} {buffer : List ℕ} (bytes : List ℕ) → CanTake p buffer → TakenTo bytes 0 p buffer p buffer
+unfolding withBytes
+none-taken bytes can =
+    record { place = zero-le; can = can; same-size = refl; follows = λ s held. unless-told (can .told) held }
+
+-- .. and then the part of a line up to the end that was found
+pub part-taken : {p q r : Pending} {before between after : List ℕ} (bytes : List ℕ) (at end next : ℕ) → TakenTo bytes at p before q between
+    → end ≡ at + indexOf 10 (slice at (length bytes) bytes) → next ≡ choose (ltb end (length bytes)) (end + 1) end
+    → Follows (λ s. withPart s (take (end - at) (drop at bytes)) (ltb end (length bytes))) q between r after
+    → Follows (λ s. withBytes s (take next bytes)) p before r after
+part-taken bytes at end next taken found behind part s held =
+    rw (turn s bytes at end next (taken .place) found behind)
+    (part (withBytes s (take at bytes)) (held-told (taken .can .told) (taken .follows s held)))
+
 -- ---- the start, a read that failed, and the end of the input
 
-pub held-start : (p : Pending) (buffer : List ℕ) → p .chart ≡ zeroChart → p .len ≡ 0 → p .status ≡ 0 → Holds atStart p buffer
+pub held-start : (p : Pending) (buffer : List ℕ) → p .chart ≡ zeroChart → p .len ≡ 0 → p .status ≡ 0 → HoldsInput atStart p buffer
 held-start p buffer chart none status = record { chart = chart; count = omega arith; bytes = rw (none, take-nil); status = status }
 
-pub held-lost : {s : SoFar} {p : Pending} {buffer : List ℕ} (status : ℕ) → status ≡ 3 → Holds s p buffer
-    → Holds (unlessFailed true (withBytes s [])) (record { chart = p .chart; len = 0; status = status; told = true }) buffer
+pub held-lost : {s : SoFar} {p : Pending} {buffer : List ℕ} (status : ℕ) → status ≡ 3 → HoldsInput s p buffer
+    → HoldsInput (unlessFailed true (withBytes s [])) (record { chart = p .chart; len = 0; status = status; told = true }) buffer
 unfolding unlessFailed withBytes
 held-lost {buffer = buffer} status e held =
     record { chart = held .chart; count = omega arith; bytes = sym (take-nil (length buffer)); status = e }
@@ -235,7 +258,7 @@ otherwise : (told : Bool) (x y : ℕ) → choose told x y ≡ choose (not told) 
 otherwise true x y = refl
 otherwise false x y = refl
 
-module _ (s : SoFar) (p : Pending) (buffer : List ℕ) (room : HasRoom p buffer) (held : Holds s p buffer) where
+module _ (s : SoFar) (p : Pending) (buffer : List ℕ) (room : HasRoom p buffer) (held : HoldsInput s p buffer) where
   pub held-none : p .len ≡ 0 → IsEnd (atEnd s) p
   held-none none =
       rw (none-left (s .chart) (s .line) (s .status) (omega (arith, held .count, room .enough)))
@@ -250,37 +273,51 @@ module _ (s : SoFar) (p : Pending) (buffer : List ℕ) (room : HasRoom p buffer)
 -- ---- one read
 
 pub read-came : {p : Pending} {before after bytes : List ℕ} (r : AfterRead) → Taken bytes p before (r .pending) after
-    → (r .more ≡ true → r .pending .told ≡ true) → IsRead p before r after
+    → (r .more ≡ true → r .pending .told ≡ true) → IsInputRead p before r after
 read-came {bytes = bytes} r taken told =
+    let keeps = taken .keeps in
     record {
-      came = record { bytes = take (taken .count) bytes; failed = not (r .pending .told); follows = taken .follows };
+      came =
+          record {
+            bytes = take (taken .count) bytes;
+            failed = not (r .pending .told);
+            within = keeps .within;
+            follows = keeps .follows;
+          };
       goes-on = λ more. ap not (told more);
       told = told;
     }
 
 pub read-failed : (p : Pending) (buffer : List ℕ) (status : ℕ) → status ≡ 3
-    → IsRead p buffer (record { more = false; pending = record { chart = p .chart; len = 0; status = status; told = true } }) buffer
+    → IsInputRead p buffer (record { more = false; pending = record { chart = p .chart; len = 0; status = status; told = true } }) buffer
 read-failed p buffer status e =
     record {
-      came = record { bytes = []; failed = true; follows = λ s held. held-lost status e held };
+      came = record { bytes = []; failed = true; within = zero-le; follows = λ s held. held-lost status e held };
       goes-on = λ more. absurd (false≢true more);
       told = λ more. absurd (false≢true more);
     }
 
 -- ---- one read after the other
 
--- bytes came, and nothing has failed
+-- bytes came, and nothing has failed: more can be taken
 pub record AllCame (p : Pending) (before : List ℕ) (q : Pending) (after : List ℕ) : Type 0 where
   pub bytes : List ℕ
-  pub follows : (s : SoFar) → Holds s p before → Holds (withBytes s bytes) q after
+  pub can : CanTake q after
+  pub same-size : length after ≡ length before
+  pub follows : (s : SoFar) → HoldsInput s p before → HoldsInput (withBytes s bytes) q after
 
-pub none-came : (p : Pending) (buffer : List ℕ) → AllCame p buffer p buffer
+pub none-came : {p : Pending} {buffer : List ℕ} → CanTake p buffer → AllCame p buffer p buffer
 unfolding withBytes
-none-came p buffer = record { bytes = []; follows = λ s held. held }
+none-came can = record { bytes = []; can = can; same-size = refl; follows = λ s held. held }
 
 pub so-came : {p q : Pending} {before after : List ℕ} → AllCame p before q after → Came p before q after
 unfolding unlessFailed
-so-came all = record { bytes = all .bytes; failed = false; follows = all .follows }
+so-came all = record { bytes = all .bytes; failed = false; within = all .can .room .within; follows = all .follows }
+
+-- a buffer as long as before still has room, and every answer was written
+pub still-can : {p q : Pending} {before after : List ℕ} → CanTake p before → length after ≡ length before → q .len ≤ length after
+    → q .told ≡ true → CanTake q after
+still-can can size within told = record { room = record { within = within; enough = omega (arith, can .room .enough) }; told = told }
 
 module _ {p q r : Pending} {before between after : List ℕ} (all : AllCame p before q between) (next : Came q between r after) where
   pub last-came : Came p before r after
@@ -288,14 +325,17 @@ module _ {p q r : Pending} {before between after : List ℕ} (all : AllCame p be
       record {
         bytes = all .bytes ++ next .bytes;
         failed = next .failed;
+        within = next .within;
         follows = λ s held. rw reads-joined (next .follows (withBytes s (all .bytes)) (all .follows s held));
       }
 
-  pub more-came : next .failed ≡ false → AllCame p before r after
+  pub more-came : next .failed ≡ false → r .told ≡ true → length after ≡ length between → AllCame p before r after
   unfolding unlessFailed
-  more-came e =
+  more-came e told size =
       record {
         bytes = all .bytes ++ next .bytes;
+        can = still-can (all .can) size (next .within) told;
+        same-size = size ∙ all .same-size;
         follows = λ s held.
             rw (reads-joined s (all .bytes) (next .bytes)) (rw e at (next .follows (withBytes s (all .bytes)) (all .follows s held)));
       }

@@ -6,7 +6,7 @@ use mathlib.Core.List.{List, [], _∷_, _++_}
 use Prim.Native.Nat.{ℕ, _+_, _≤_, min, max}
 use lib.ListN.{length, take}
 use lib.Dec.{eqb}
-use Rattle.guide.specs.Choice.{choose}
+use Rattle.rules.specs.Choice.{choose}
 use Rattle.chart.specs.declared.Chart.{Chart}
 use Rattle.chart.specs.Chart.{zeroChart}
 use Rattle.parsing.specs.Fields.{withoutReturn}
@@ -33,9 +33,14 @@ atStart = soFar zeroChart [] 0
 unfoldable pub endedLine : List ℕ → Line
 endedLine bytes = lineIn (withoutMark (withoutReturn bytes))
 
--- after a line, from the chart and the status before it: the next line begins. Of several answers the highest status counts
+-- after an answer, from the chart after the command and the status before it: the next line begins. Of several answers the highest status
+-- counts
+abbrev pub afterAnswer : Chart → ℕ → List ℕ → SoFar
+afterAnswer chart status answer = soFar chart [] (max status (statusOf answer))
+
+-- after a line, from the chart and the status before it
 unfoldable pub afterLine : Chart → ℕ → Line → SoFar
-afterLine chart status line = soFar (chartAfterLine chart line) [] (max status (statusOf (answerToLine chart line)))
+afterLine chart status line = afterAnswer (chartAfterLine chart line) status (answerToLine chart line)
 
 unfoldable pub afterEnded : SoFar → List ℕ → SoFar
 afterEnded s bytes = afterLine (s .chart) (s .status) (endedLine bytes)
@@ -68,7 +73,7 @@ atEnd s = afterEnded s (s .line)
 abbrev pub lineRoom : ℕ
 lineRoom = lineMost + 5
 
-pub record Holds (s : SoFar) (p : Pending) (buffer : List ℕ) : Type 0 where
+pub record HoldsInput (s : SoFar) (p : Pending) (buffer : List ℕ) : Type 0 where
   pub chart : p .chart ≡ s .chart
   pub count : p .len ≡ min (length (s .line)) (length buffer)
   pub bytes : take (p .len) buffer ≡ take (length buffer) (s .line)
@@ -76,7 +81,12 @@ pub record Holds (s : SoFar) (p : Pending) (buffer : List ℕ) : Type 0 where
 
 -- for every s: if p holds s before, q holds `change s` after, unless an answer was not written
 abbrev pub Follows : (SoFar → SoFar) → Pending → List ℕ → Pending → List ℕ → Type 0
-Follows change p before q after = (s : SoFar) → Holds s p before → Holds (unlessFailed (not (q .told)) (change s)) q after
+Follows change p before q after = (s : SoFar) → HoldsInput s p before → HoldsInput (unlessFailed (not (q .told)) (change s)) q after
+
+-- .. and the pending bytes lie within the buffer
+pub record Keeps (change : SoFar → SoFar) (p : Pending) (before : List ℕ) (q : Pending) (after : List ℕ) : Type 0 where
+  pub within : q .len ≤ length after
+  pub follows : Follows change p before q after
 
 -- ---- what the program's functions ask and give
 
@@ -107,16 +117,17 @@ EndsLine p line r = IsAfter (afterLine (p .chart) (p .status) (endedLine line)) 
 pub record Taken (bytes : List ℕ) (p : Pending) (before : List ℕ) (q : Pending) (after : List ℕ) : Type 0 where
   pub count : ℕ
   pub all : q .told ≡ true → take count bytes ≡ bytes
-  pub follows : Follows (λ s. withBytes s (take count bytes)) p before q after
+  pub keeps : Keeps (λ s. withBytes s (take count bytes)) p before q after
 
 -- bytes came, and then perhaps a read failed or an answer was not written. Only the system knows which bytes
 pub record Came (p : Pending) (before : List ℕ) (q : Pending) (after : List ℕ) : Type 0 where
   pub bytes : List ℕ
   pub failed : Bool
-  pub follows : (s : SoFar) → Holds s p before → Holds (unlessFailed failed (withBytes s bytes)) q after
+  pub within : q .len ≤ length after
+  pub follows : (s : SoFar) → HoldsInput s p before → HoldsInput (unlessFailed failed (withBytes s bytes)) q after
 
 -- one read; if it is not the last, nothing has failed, and every answer was written
-pub record IsRead (p : Pending) (before : List ℕ) (r : AfterRead) (after : List ℕ) : Type 0 where
+pub record IsInputRead (p : Pending) (before : List ℕ) (r : AfterRead) (after : List ℕ) : Type 0 where
   pub came : Came p before (r .pending) after
   pub goes-on : r .more ≡ true → came .failed ≡ false
   pub told : r .more ≡ true → r .pending .told ≡ true
@@ -130,7 +141,7 @@ pub record IsEnd (s : SoFar) (r : Pending) : Type 0 where
 
 -- for every s: if p holds s before, r is what the program holds at the end of the input
 abbrev pub GivesAtEnd : Pending → List ℕ → Pending → Type 0
-GivesAtEnd p buffer r = (s : SoFar) → Holds s p buffer → IsEnd (atEnd s) r
+GivesAtEnd p buffer r = (s : SoFar) → HoldsInput s p buffer → IsEnd (atEnd s) r
 
 -- after the whole input
 pub record IsAtEnd (r : Pending) : Type 0 where

@@ -23,10 +23,14 @@ isAnswered outcome.Answered = true
 isAnswered outcome.Fault = false
 isAnswered outcome.NoRoom = false
 
--- the status of what a command on a file comes to. Only a command that is answered has another status than 3
-pub data StatusOfEnding (e : Ending) (status : ℕ) : Type 0 where
-  answered : isAnswered (e .outcome) ≡ true → StatusBy (e .text) status → StatusOfEnding e status
-  inError : status ≡ 3 → StatusOfEnding e status
+-- the status of a command that comes to this outcome and this text. Only a command that is answered has another status than 3
+pub data StatusAfter (o : Outcome) (text : List ℕ) (status : ℕ) : Type 0 where
+  answered : isAnswered o ≡ true → StatusBy text status → StatusAfter o text status
+  inError : status ≡ 3 → StatusAfter o text status
+
+-- .. of a command on a file
+abbrev pub StatusOfEnding : Ending → ℕ → Type 0
+StatusOfEnding e status = StatusAfter (e .outcome) (e .text) status
 
 unfoldable pub asksForHelp : List ℕ → Bool
 asksForHelp word = (sameBytes word (ascii "--help") || sameBytes word (ascii "-h")) || sameBytes word (ascii "help")

@@ -1,13 +1,13 @@
 // The arguments as a line.
 use crate::input::LINE_ROOM;
+use crate::say::put_within;
 use printing::put_byte;
-use printing::put_text;
 ghost use mathlib.Core.List.{[], _∷_};
 ghost use Prim.Native.Nat.{_≤_};
 ghost use lib.ListN.{length};
 ghost use lib.Dec.{eqb};
 ghost use Rattle.io.specs.Counts.{Counts};
-ghost use Rattle.guide.specs.Choice.{choose};
+ghost use Rattle.rules.specs.Choice.{choose};
 ghost use Rattle.printing.specs.Output.{Puts};
 ghost use Rattle.printing.specs.Decimal.{spaceCode};
 
@@ -35,11 +35,13 @@ fn put_argument(i: usize, line: &mut [u8], at: usize) -> usize
         return line.len();
     }
     let next = put_blank(line, at);
-    put_text(line, next, &argument[..n])
+    put_within(line, next, &argument[..n])
 }
 
 // Puts a blank between two arguments, and none in front of the first.
 fn put_blank(line: &mut [u8], at: usize) -> usize
+    requires { ⌜ at ≤ length (now line) ⌝ }
+    ensures { λ r. ⌜ r ≤ length (now (line .exit)) ⌝ }
     ensures { λ r. ⌜ Puts (now (line .entry)) at (choose (eqb at 0) [] (spaceCode ∷ [])) (now (line .exit)) r ⌝ }
 {
     if at == 0 {

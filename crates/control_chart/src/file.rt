@@ -20,12 +20,15 @@ use outcomes::names::is_name;
 use outcomes::names::may_change;
 use outcomes::on_file;
 use outcomes::status::exit_status;
+use store::FORM_MOST;
 use system::Permissions;
+ghost use Prim.Native.Nat.{_+_};
+ghost use Rattle.store.specs.Store.{formMost};
 ghost use Rattle.outcomes.specs.OnFile.{heldIn, startOf, ending};
-ghost use Rattle.control_chart.specs.Status.{StatusBy, StatusOfEnding};
+ghost use Rattle.control_chart.specs.Status.{StatusBy, StatusAfter, StatusOfEnding};
 
-// More than the longest stored form, which has 814 bytes.
-const FILE_ROOM: usize = 1024;
+// One byte more than the longest stored form. So a longer file is not taken for a stored form.
+const FILE_ROOM: usize = FORM_MOST + 1;
 
 // Does the command that begins with the argument `first`. Answers the exit status.
 pub fn command_on_file(path: &[u8], first: usize, count: usize) -> u8 {
@@ -60,33 +63,48 @@ fn look_at_file(path: &[u8], line: &[u8]) -> u8 {
     say_look(path, read.there, &held[..n], line)
 }
 
-// The last arm is never reached. A command that may not change the chart never changes the file (`only-read` in `outcomes/proofs/Files`),
-// and the buffer has room for every form (`room-enough`).
 fn say_look(path: &[u8], there: bool, held: &[u8], line: &[u8]) -> u8
-    ensures { λ r. ⌜ StatusOfEnding (ending (startOf (heldIn there (now (held .entry))) (now (line .entry))) (now (line .entry)) 1024) r ⌝ }
+    ensures { λ r. ⌜ StatusOfEnding (ending (startOf (heldIn there (now (held .entry))) (now (line .entry))) (now (line .entry)) (formMost + 1)) r ⌝ }
 {
     let mut form = [0u8; FILE_ROOM];
     let mut out = [0u8; ANSWER_MOST];
     let r = on_file(there, held, line, &mut form, &mut out);
     let size = r.size;
     let outcome = r.outcome;
+    say_outcome(path, outcome, &out[..size])
+}
+
+// Says what a command comes to whose file stays as it is. The last two arms are never reached. A command that may not change the chart
+// never changes the file (`only-read` in `outcomes/proofs/Files`), and the buffer has room for every form (`room-enough`).
+fn say_outcome(path: &[u8], outcome: Outcome, text: &[u8]) -> u8
+    ensures { λ r. ⌜ StatusAfter outcome (now (text .entry)) r ⌝ }
+{
     match outcome {
-        Outcome::Answered => answer(path, &out[..size]),
-        Outcome::Fault => error(path, &out[..size]),
-        _ => error(
+        Outcome::Answered => answer(
+            path,
+            text,
+            b"it is as it was, and the answer cannot be written",
+        ),
+        Outcome::Fault => error(path, text),
+        Outcome::Changed => error(
             path,
             b"it would be changed without a lock; nothing was done",
+        ),
+        Outcome::NoRoom => error(
+            path,
+            b"the chart is too long for a stored form; nothing was done",
         ),
     }
 }
 
-fn answer(path: &[u8], text: &[u8]) -> u8
+// Says an answer. If it cannot be written, says what has become of the file and the command.
+fn answer(path: &[u8], text: &[u8], otherwise: &[u8]) -> u8
     ensures { λ r. ⌜ StatusBy (now (text .entry)) r ⌝ }
 {
     if say(text) {
         return exit_status(text);
     }
-    failure(path, b"it is as it was, and the answer cannot be written")
+    failure(path, otherwise)
 }
 
 // ---- a command that may change the chart
@@ -132,7 +150,6 @@ fn change_locked(path: &[u8], lock: &[u8], fd: i32, line: &[u8]) -> u8 {
     change_held(path, lock, fd, permissions, read.there, &held[..n], line)
 }
 
-// The last arm is never reached, because the buffer has room for every form (`room-enough` in `outcomes/proofs/Files`).
 fn change_held(
     path: &[u8],
     lock: &[u8],
@@ -142,7 +159,7 @@ fn change_held(
     held: &[u8],
     line: &[u8],
 ) -> u8
-    ensures { λ r. ⌜ StatusOfEnding (ending (startOf (heldIn there (now (held .entry))) (now (line .entry))) (now (line .entry)) 1024) r ⌝ }
+    ensures { λ r. ⌜ StatusOfEnding (ending (startOf (heldIn there (now (held .entry))) (now (line .entry))) (now (line .entry)) (formMost + 1)) r ⌝ }
 {
     let mut form = [0u8; FILE_ROOM];
     let mut out = [0u8; ANSWER_MOST];
@@ -152,27 +169,23 @@ fn change_held(
     let outcome = r.outcome;
     match outcome {
         Outcome::Changed => keep(path, lock, fd, permissions, &form[..n], &out[..size]),
-        Outcome::Answered => {
+        _ => {
             release(lock, fd);
-            answer(path, &out[..size])
-        }
-        Outcome::Fault => {
-            release(lock, fd);
-            error(path, &out[..size])
-        }
-        Outcome::NoRoom => {
-            release(lock, fd);
-            error(
-                path,
-                b"the chart is too long for a stored form; nothing was done",
-            )
+            say_outcome(path, outcome, &out[..size])
         }
     }
 }
 
 // Puts the new form into the file, then says the answer.
-fn keep(path: &[u8], lock: &[u8], fd: i32, permissions: Permissions, form: &[u8], text: &[u8]) -> u8
-    ensures { λ r. ⌜ StatusBy (now (text .entry)) r ⌝ }
+fn keep(
+    path: &[u8],
+    lock: &[u8],
+    fd: i32,
+    permissions: Permissions,
+    form: &[u8],
+    reply: &[u8],
+) -> u8
+    ensures { λ r. ⌜ StatusBy (now (reply .entry)) r ⌝ }
 {
     if !replace_file(path, lock, fd, permissions, form) {
         return ERROR;
@@ -184,11 +197,10 @@ fn keep(path: &[u8], lock: &[u8], fd: i32, permissions: Permissions, form: &[u8]
             b"it is replaced, but its folder cannot be synced: after a loss of power it may be the old one",
         );
     }
-    if !say(text) {
-        return failure(
-            path,
-            b"the command was done, but its answer cannot be written",
-        );
-    }
-    if synced { exit_status(text) } else { ERROR }
+    let status = answer(
+        path,
+        reply,
+        b"the command was done, but its answer cannot be written",
+    );
+    if synced { status } else { ERROR }
 }

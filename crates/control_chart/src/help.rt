@@ -1,6 +1,7 @@
 // What the program takes and answers, and its version.
 use crate::say::failure;
 use crate::say::say;
+use crate::say::say_front;
 use printing::numbers::put_decimal;
 use texts::put_refusal_meaning;
 use texts::put_verdict_meaning;
@@ -10,17 +11,18 @@ use texts::put_version;
 const ROOM: usize = 64;
 
 // The program answers the refusals 1 to 14, and 16. It lends enough room for every stored form, so 15 never occurs.
-const LAST_REFUSAL: u32 = 14;
+const NO_ROOM: u32 = 15;
 
 const TOO_FEW_STAND: u32 = 16;
 
-const LAST_VERDICT: u32 = 4;
+// The verdicts are 0 to 4.
+const VERDICTS: u32 = 5;
 
 pub fn say_version() -> u8 {
     let mut version = [0u8; ROOM];
     let length = put_version(&mut version);
     say(b"control_chart ");
-    say(&version[..length]);
+    say_front(&version, length);
     ended(say(b"\n"))
 }
 
@@ -107,7 +109,8 @@ fn say_numbers() {
     say(b"1 duplicate  A and B are the two results; C is ignored: give 0\n");
     say(b"2 check      A was found, B was made up; C is ignored: give 0\n");
     say(b"3 spike      A is the spiked sample, B the unspiked one, C what was added\n\n");
-    say_verdicts();
+    say(b"verdict V:\n");
+    say_meanings(false, 0, VERDICTS);
     say(
         b"Verdict 4 is for kinds 2 and 3. If several verdicts apply, the answer is the first of 1, 2, 4, 3.\n",
     );
@@ -119,47 +122,40 @@ fn say_numbers() {
     );
 }
 
-fn say_verdicts() {
-    say(b"verdict V:\n");
-    let mut verdict: u32 = 0;
-    while verdict <= LAST_VERDICT {
-        say_verdict(verdict);
-        verdict += 1;
-    }
-}
-
-fn say_verdict(verdict: u32) {
-    let mut meaning = [0u8; ROOM];
-    let length = put_verdict_meaning(&mut meaning, verdict);
-    say_meaning(verdict, &meaning[..length]);
-}
-
 fn say_refusals() {
     say(b"refused N:\n");
-    let mut number: u32 = 1;
-    while number <= LAST_REFUSAL {
-        say_refusal(number);
-        number += 1;
-    }
-    say_refusal(TOO_FEW_STAND);
+    say_meanings(true, 1, NO_ROOM);
+    say_meaning(true, TOO_FEW_STAND);
     say(b"\n");
 }
 
-fn say_refusal(number: u32) {
-    let mut meaning = [0u8; ROOM];
-    let length = put_refusal_meaning(&mut meaning, number);
-    say_meaning(number, &meaning[..length]);
+// Says a line for each number from `first` to the one before `end`.
+fn say_meanings(refusals: bool, first: u32, end: u32) {
+    let mut number = first;
+    while number < end {
+        say_meaning(refusals, number);
+        number += 1;
+    }
 }
 
-// Says a line: the number, two columns wide, and what it means.
-fn say_meaning(number: u32, meaning: &[u8]) {
-    let mut digits = [0u8; ROOM];
-    let length = put_decimal(&mut digits, 0, number as u64);
+// Says a line: the number, two columns wide, and what it means, as a refusal or as a verdict.
+fn say_meaning(refusal: bool, number: u32) {
     if number < 10 {
         say(b" ");
     }
-    say(&digits[..length]);
+    let mut digits = [0u8; ROOM];
+    let width = put_decimal(&mut digits, 0, number as u64);
+    say_front(&digits, width);
     say(b"  ");
-    say(meaning);
+    let mut meaning = [0u8; ROOM];
+    let length = put_meaning(refusal, &mut meaning, number);
+    say_front(&meaning, length);
     say(b"\n");
+}
+
+fn put_meaning(refusal: bool, out: &mut [u8], number: u32) -> usize {
+    if refusal {
+        return put_refusal_meaning(out, number);
+    }
+    put_verdict_meaning(out, number)
 }

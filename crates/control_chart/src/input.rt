@@ -13,12 +13,12 @@ use parsing::fields::without_return;
 use parsing::text::mark_size;
 use printing::put_text;
 ghost use mathlib.Core.Path.{_≡_};
-ghost use Prim.Native.Nat.{_+_, _≤_, max};
+ghost use Prim.Native.Nat.{_+_, max};
 ghost use lib.ListN.{length};
 ghost use lib.Dec.{ltb};
-ghost use Rattle.guide.specs.Choice.{choose};
-ghost use Rattle.control_chart.specs.Input.{withPart, Follows, HasRoom, CanTake, GivesAtEnd, EndsLine, Answers};
-ghost use Rattle.control_chart.specs.Input.{Came, Taken, IsRead, IsAtEnd};
+ghost use Rattle.rules.specs.Choice.{choose};
+ghost use Rattle.control_chart.specs.Input.{afterAnswer, withPart, Keeps, HasRoom, CanTake, GivesAtEnd, IsAfter, EndsLine, Answers};
+ghost use Rattle.control_chart.specs.Input.{Came, Taken, IsInputRead, IsAtEnd};
 
 // `lineRoom` in `specs/Input`.
 pub const LINE_ROOM: usize = LINE_MOST + 5;
@@ -32,12 +32,6 @@ pub struct Pending {
     pub status: u8,
     // Whether every answer was written. If not, no further command is done.
     pub told: bool,
-}
-
-// What is pending after a read, and whether to go on.
-struct AfterRead {
-    more: bool,
-    pending: Pending,
 }
 
 // Does the commands on standard input, from the chart of zeros. Answers what the program holds at the end of the input.
@@ -58,7 +52,6 @@ pub fn commands_from_input() -> Pending
 // Reads to the end of the input. No contract says that the input ends, so the loop counts its reads: 2^63 are more than any input needs.
 fn take_all(pending: Pending, line: &mut [u8]) -> Pending
     requires { ⌜ CanTake pending (now line) ⌝ }
-    ensures { λ r. ⌜ r .len ≤ length (now (line .exit)) ⌝ }
     ensures { λ r. ⌜ Came pending (now (line .entry)) r (now (line .exit)) ⌝ }
 {
     let mut kept = pending;
@@ -86,11 +79,16 @@ fn end_input(pending: Pending, line: &[u8]) -> Pending
     end_line(pending, &line[..n])
 }
 
+// What is pending after a read, and whether to go on.
+struct AfterRead {
+    more: bool,
+    pending: Pending,
+}
+
 // One read. If it fails, a line that has begun is dropped, because its end is not known.
 fn read_some(pending: Pending, line: &mut [u8]) -> AfterRead
     requires { ⌜ CanTake pending (now line) ⌝ }
-    ensures { λ r. ⌜ r .pending .len ≤ length (now (line .exit)) ⌝ }
-    ensures { λ r. ⌜ IsRead pending (now (line .entry)) r (now (line .exit)) ⌝ }
+    ensures { λ r. ⌜ IsInputRead pending (now (line .entry)) r (now (line .exit)) ⌝ }
 {
     let mut bytes = io::buffer();
     let got = libc::read(STDIN_FILENO, &mut bytes);
@@ -122,7 +120,6 @@ fn read_some(pending: Pending, line: &mut [u8]) -> AfterRead
 // Takes bytes that were read. Answers each line that ends in them, and keeps the rest. Stops after an answer that was not written.
 fn take_bytes(pending: Pending, bytes: &[u8], line: &mut [u8]) -> Pending
     requires { ⌜ CanTake pending (now line) ⌝ }
-    ensures { λ r. ⌜ r .len ≤ length (now (line .exit)) ⌝ }
     ensures { λ r. ⌜ Taken (now (bytes .entry)) pending (now (line .entry)) r (now (line .exit)) ⌝ }
 {
     let mut kept = pending;
@@ -148,8 +145,7 @@ fn after_line_feed(bytes: &[u8], end: usize) -> usize
 // Takes a part of a line. `ends` says whether a line feed follows it.
 fn take_part(pending: Pending, part: &[u8], ends: bool, line: &mut [u8]) -> Pending
     requires { ⌜ CanTake pending (now line) ⌝ }
-    ensures { λ r. ⌜ r .len ≤ length (now (line .exit)) ⌝ }
-    ensures { λ r. ⌜ Follows (λ s. withPart s (now (part .entry)) ends) pending (now (line .entry)) r (now (line .exit)) ⌝ }
+    ensures { λ r. ⌜ Keeps (λ s. withPart s (now (part .entry)) ends) pending (now (line .entry)) r (now (line .exit)) ⌝ }
 {
     let chart = pending.chart;
     let status = pending.status;
@@ -183,7 +179,14 @@ fn answered(pending: Pending, line: &[u8]) -> Pending
     let answer = answer_line(pending.chart, line, &mut out);
     let chart = answer.chart;
     let size = answer.size;
-    if !say(&out[..size]) {
+    after_answer(chart, pending.status, &out[..size])
+}
+
+// Says an answer. The chart is the one after the command, and the status is the one before it.
+fn after_answer(chart: Chart, earlier: u8, text: &[u8]) -> Pending
+    ensures { λ r. ⌜ IsAfter (afterAnswer chart earlier (now (text .entry))) r ⌝ }
+{
+    if !say(text) {
         let status = failure(
             b"standard output",
             b"it cannot be written, and no further command was done",
@@ -195,7 +198,7 @@ fn answered(pending: Pending, line: &[u8]) -> Pending
             told: false,
         };
     }
-    let status = higher(pending.status, exit_status(&out[..size]));
+    let status = higher(earlier, exit_status(text));
     Pending {
         chart,
         len: 0,

@@ -2,7 +2,7 @@
 // lock and renames the lock over FILE, or it removes the lock. No other process of this program removes it.
 use crate::say::error;
 use crate::say::failure;
-use printing::put_text;
+use crate::say::put_within;
 ghost use Rattle.io.specs.Counts.{Counts};
 
 // Room for what is said about a lock: the longest name, and what to do.
@@ -15,8 +15,8 @@ const TRIES: u32 = 400;
 pub fn put_lock_name(path: &[u8], name: &mut [u8]) -> usize
     ensures { λ r. ⌜ Counts r (now (name .exit)) ⌝ }
 {
-    let behind_path = put_text(name, 0, path);
-    put_text(name, behind_path, b".lock")
+    let behind_path = put_within(name, 0, path);
+    put_within(name, behind_path, b".lock")
 }
 
 // Makes the lock, and answers a descriptor that is open for writing to it. If it cannot make the lock, it says why and answers less than 0.
@@ -47,13 +47,13 @@ fn say_locked(path: &[u8], lock: &[u8]) {
 fn put_locked(lock: &[u8], text: &mut [u8]) -> usize
     ensures { λ r. ⌜ Counts r (now (text .exit)) ⌝ }
 {
-    let at_name = put_text(
+    let at_name = put_within(
         text,
         0,
         b"another command is at work on it, and nothing was done; if none is, not even a suspended one, one was killed: remove ",
     );
-    let behind_name = put_text(text, at_name, lock);
-    put_text(text, behind_name, b" and repeat the command")
+    let behind_name = put_within(text, at_name, lock);
+    put_within(text, behind_name, b" and repeat the command")
 }
 
 // Removes the lock that this process made. The file stays as it is. If somebody removed the lock already, nothing is removed: the name may

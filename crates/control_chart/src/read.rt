@@ -12,12 +12,6 @@ pub struct FileRead {
     pub permissions: Permissions,
 }
 
-// What reading an open file gave.
-struct BytesRead {
-    done: bool,
-    len: usize,
-}
-
 // It is no failure if there is no file. If a call fails, the file is not closed, so that the reason is still the system's last one.
 pub fn read_file(path: &[u8], held: &mut [u8]) -> FileRead
     ensures { λ r. ⌜ Counts (r .len) (now (held .exit)) ⌝ }
@@ -30,18 +24,11 @@ pub fn read_file(path: &[u8], held: &mut [u8]) -> FileRead
     if !permissions.known {
         return no_file(false);
     }
-    let read = read_all(fd, held);
-    let len = read.len;
-    if !read.done {
-        return no_file(false);
+    let read = read_all(fd, permissions, held);
+    if read.done {
+        libc::close(fd);
     }
-    libc::close(fd);
-    FileRead {
-        done: true,
-        there: true,
-        len,
-        permissions,
-    }
+    read
 }
 
 fn no_file(done: bool) -> FileRead
@@ -61,23 +48,25 @@ fn no_file(done: bool) -> FileRead
 }
 
 // Reads to the end, or until the buffer is full. A read may bring less than there is.
-fn read_all(fd: i32, bytes: &mut [u8]) -> BytesRead
+fn read_all(fd: i32, permissions: Permissions, bytes: &mut [u8]) -> FileRead
     ensures { λ r. ⌜ Counts (r .len) (now (bytes .exit)) ⌝ }
 {
     let mut len: usize = 0;
     while len < bytes.len() {
         let got = libc::read(fd, &mut bytes[len..]);
         if got < 0 {
-            return BytesRead {
-                done: false,
-                len: 0,
-            };
+            return no_file(false);
         }
         let n = io::count(got, &bytes[len..]);
         if n == 0 {
-            return BytesRead { done: true, len };
+            break;
         }
         len += n;
     }
-    BytesRead { done: true, len }
+    FileRead {
+        done: true,
+        there: true,
+        len,
+        permissions,
+    }
 }

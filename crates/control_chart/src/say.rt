@@ -23,6 +23,13 @@ pub fn say(text: &[u8]) -> bool {
     write_text(STDOUT_FILENO, text)
 }
 
+// Says the text at the front of a buffer. `texts` and `printing` answer its size, which is never more than the buffer's.
+pub fn say_front(out: &[u8], size: usize) {
+    if size <= out.len() {
+        say(&out[..size]);
+    }
+}
+
 // Writes all of a text, and answers whether it could. It waits if the system cannot take a byte at the moment. No contract says that a
 // write ever takes a byte, so the loop counts its writes: 2^63 are more than any text needs.
 pub fn write_text(fd: i32, text: &[u8]) -> bool {
@@ -99,9 +106,17 @@ pub fn failure(name: &[u8], what: &[u8]) -> u8
 fn put_error(text: &mut [u8], name: &[u8], what: &[u8], end: &[u8]) -> usize
     ensures { λ r. ⌜ Counts r (now (text .exit)) ⌝ }
 {
-    let at_name = put_text(text, 0, b"error: ");
-    let behind_name = put_text(text, at_name, name);
-    let at_what = put_text(text, behind_name, b": ");
-    let behind_what = put_text(text, at_what, what);
-    put_text(text, behind_what, end)
+    let at_name = put_within(text, 0, b"error: ");
+    let behind_name = put_within(text, at_name, name);
+    let at_what = put_within(text, behind_name, b": ");
+    let behind_what = put_within(text, at_what, what);
+    put_within(text, behind_what, end)
+}
+
+// Puts a text from a place within the buffer on. The place after it lies within the buffer too, so the bytes before it can be lent.
+pub fn put_within(out: &mut [u8], at: usize, text: &[u8]) -> usize
+    requires { ⌜ at ≤ length (now out) ⌝ }
+    ensures { λ r. ⌜ Counts r (now (out .exit)) ⌝ }
+{
+    put_text(out, at, text)
 }

@@ -13,11 +13,11 @@ use lib.Signed.{leZ}
 use mir.Syntax.{w16}
 use mir.Val.{SFits, toZ, ofZ}
 use mir.Facts.{toZ-ofZ}
-use Rattle.guide.specs.AllOf.{allOf}
-use Rattle.guide.proofs.Booleans.{both, same-outcome}
-use Rattle.guide.proofs.Choice.{choose-ind}
-use Rattle.guide.proofs.Integers.{at-most-self, at-most-then, at-most-or}
-use Rattle.guide.proofs.PassesBetween.{PassesBetween}
+use Rattle.rules.specs.AllOf.{allOf}
+use Rattle.rules.proofs.Booleans.{both, same-outcome}
+use Rattle.rules.proofs.Choice.{choose-ind}
+use Rattle.rules.proofs.Integers.{at-most-self, at-most-then, at-most-or}
+use Rattle.rules.proofs.PassesBetween.{PassesBetween}
 use Rattle.extremes.specs.declared.Extremes.{Extremes}
 use Rattle.extremes.specs.Extremes.{lesser, greater, pickedFrom, pickedOf, leastOf, greatestOf, AreExtremes}
 
@@ -51,6 +51,11 @@ module _ (pick : ℤ → ℤ → ℤ) where
     pub picked-end : length ws ≤ i → x ≡ whole
     unfolding pickedFrom
     picked-end h = sym (rw (drop-of-length-le ws h)) ∙ inv
+
+-- the loop's extremes and the words that remain give those of all words
+pub record SoFar (words : List ℤ) (i : ℕ) (e : Extremes) : Type 0 where
+  pub least : pickedFrom lesser (e .least) (drop i words) ≡ leastOf words
+  pub greatest : pickedFrom greater (e .greatest) (drop i words) ≡ greatestOf words
 
 -- ---- the lesser and the greater of two
 

@@ -3,6 +3,7 @@
 // They decide a test that every word between two passing words passes too, such as the range of a kind or the control limits: all words
 // pass exactly if these two pass. So many words need only two tests, and a loop that only compares.
 ghost use mathlib.Core.Path.{_≡_};
+ghost use Rattle.rules.specs.Choice.{choose};
 ghost use Rattle.extremes.specs.Extremes as specs;
 
 pub struct Extremes {
@@ -38,19 +39,13 @@ fn with_word(e: Extremes, w: i16) -> Extremes
     ensures { λ r. ⌜ specs.AreWithWord e w r ⌝ }
 {
     Extremes {
-        least: lesser(e.least, w),
-        greatest: greater(e.greatest, w),
+        least: choose(e.least <= w, e.least, w),
+        greatest: choose(e.greatest <= w, w, e.greatest),
     }
 }
 
-fn lesser(a: i16, b: i16) -> i16
-    ensures { λ r. ⌜ r ≡ specs.lesser a b ⌝ }
+fn choose(first: bool, a: i16, b: i16) -> i16
+    ensures { λ r. ⌜ r ≡ choose first a b ⌝ }
 {
-    if a <= b { a } else { b }
-}
-
-fn greater(a: i16, b: i16) -> i16
-    ensures { λ r. ⌜ r ≡ specs.greater a b ⌝ }
-{
-    if a <= b { b } else { a }
+    if first { a } else { b }
 }

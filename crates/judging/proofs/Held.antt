@@ -8,9 +8,9 @@ use lib.ListN.{length, take}
 use lib.Seq.{take-length}
 use lib.Dec.{eqb}
 use lib.IntN.{ℤ}
-use Rattle.guide.specs.Choice.{choose}
-use Rattle.guide.specs.LastWords.{butLast}
-use Rattle.guide.specs.Soundness.{heldWithin}
+use Rattle.rules.specs.Choice.{choose}
+use Rattle.rules.specs.LastWords.{butLast}
+use Rattle.rules.specs.Soundness.{heldWithin}
 
 held-by : (free : Bool) (series : List ℤ)
     → take (choose free (length series) (length series - 1)) series ≡ choose free series (butLast series)

@@ -11,19 +11,18 @@ use lib.Dec.{leb}
 use lib.IntN.{ℤ, pos}
 use lib.Signed.{ltZ}
 use borrow.Author.Tests.{le-leb, lt-leb}
-use Rattle.guide.specs.Limits.{Limits, aboveMean, belowMean}
-use Rattle.guide.specs.AllOf.{allOf}
-use Rattle.guide.specs.LastWords.{lastWords, lastWord, oneBeforeLast}
-use Rattle.guide.specs.Verdict.{eachNext, rises, falls, runLength, isRun, rising, falling, runAbove, runBelow, warningTest}
-use Rattle.guide.specs.Reanalysis.{turnsBack, onRunsSide}
+use Rattle.rules.specs.Limits.{Sums, Limits, aboveMean, belowMean}
+use Rattle.rules.specs.AllOf.{allOf}
+use Rattle.rules.specs.LastWords.{lastWords, lastWord, oneBeforeLast}
+use Rattle.rules.specs.Verdict.{eachNext, rises, falls, runLength, isRun, rising, falling, runAbove, runBelow, warningTest}
+use Rattle.rules.specs.Reanalysis.{turnsBack, onRunsSide}
 use Rattle.limits.specs.Sums.{IsBeyondWarning, IsSide}
 use Rattle.limits.specs.declared.BeyondLimits.{BeyondLimits}
 use Rattle.limits.specs.declared.Side.{Side}
 use Rattle.judging.specs.Runs.{AreOrders, AreSides, IsTrend, IsRunSide}
 use Rattle.judging.specs.declared.verdict.Trend.{Trend}
-use Rattle.judging.specs.declared.verdict.RunSide.{RunSide}
-use Rattle.guide.proofs.AllOf.{all-next, all-none, each-next, each-none}
-use Rattle.guide.proofs.Booleans.{found-more, found-all}
+use Rattle.rules.proofs.AllOf.{all-next, all-none, each-next, each-none}
+use Rattle.rules.proofs.Booleans.{found-more, found-all}
 
 -- ---- a test that needs k words or more: "with fewer, never"
 
@@ -83,7 +82,7 @@ module _ (limits : Limits) (series : List ℤ) where
   }
 
   -- the side of the last seven words is the side of the run
-  pub is-run-side : (start : ℕ) {r : RunSide} → AreSides limits (take (length series - start) (drop start series)) r
+  pub is-run-side : (start : ℕ) {r : Side} → AreSides limits (take (length series - start) (drop start series)) r
       → start + runLength ≡ length series → IsRunSide limits series r
   unfolding runAbove runBelow
   is-run-side start sides h = record {
@@ -122,6 +121,16 @@ module _ (order : ℤ → ℤ → Bool) (words : List ℤ) (i : ℕ) (found : Bo
   pub order-end : length words ≤ i → found ≡ eachNext order words
   order-end h = found-all found (eachNext order (drop (i - 1) words)) (eachNext order words) inv (each-none order words i h)
 
+-- the two loops: what they found so far
+pub record SidesSoFar (s : Sums) (words : List ℤ) (i : ℕ) (a b : Bool) : Type 0 where
+  pub above : (a && allOf (aboveMean s) (drop i words)) ≡ allOf (aboveMean s) words
+  pub below : (b && allOf (belowMean s) (drop i words)) ≡ allOf (belowMean s) words
+
+pub record OrdersSoFar (words : List ℤ) (i : ℕ) (r f : Bool) : Type 0 where
+  pub some : 1 ≤ i
+  pub rising : (r && eachNext rises (drop (i - 1) words)) ≡ eachNext rises words
+  pub falling : (f && eachNext falls (drop (i - 1) words)) ≡ eachNext falls words
+
 -- ---- two words, and a run and a word
 
 module _ (limits : Limits) (series : List ℤ) where
@@ -146,7 +155,7 @@ turned-back series w trend =
     λ i. (trend .rising i && ltZ w (oneBeforeLast series)) || (trend .falling i && ltZ (oneBeforeLast series) w)
 
 -- the word is on the side of the run
-pub on-side : (limits : Limits) (series : List ℤ) (w : ℤ) {run : RunSide} {side : Side}
+pub on-side : (limits : Limits) (series : List ℤ) (w : ℤ) {run side : Side}
     → IsRunSide limits series run → IsSide (limits .sums) w side
     → ((run .above && side .above) || (run .below && side .below)) ≡ onRunsSide limits series w
 unfolding onRunsSide

@@ -2,12 +2,13 @@
 //
 // Judging uses the limits and the words alone. Each of the four tests is a function, and `verdict` runs them in the papers' order.
 use limits::Limits;
+use limits::Side;
 use limits::beyond_control;
 use limits::beyond_warning;
 use limits::side_of_mean;
 ghost use mathlib.Core.Path.{_≡_};
-ghost use Rattle.guide.specs.Kind.{judgesSide};
-ghost use Rattle.guide.specs.Verdict as guide;
+ghost use Rattle.rules.specs.Kind.{judgesSide};
+ghost use Rattle.rules.specs.Verdict as rules;
 ghost use Rattle.limits.specs.Sums.{limitsSay, Bounded};
 ghost use Rattle.judging.specs.Runs.{AreOrders, AreSides, IsTrend, IsRunSide};
 
@@ -20,16 +21,10 @@ pub struct Trend {
     pub falling: bool,
 }
 
-// Whether words are all strictly above the mean, and whether they are all strictly below it.
-pub struct RunSide {
-    pub above: bool,
-    pub below: bool,
-}
-
 // The verdict on the series' last word: the first that applies, in the order 1, 2, 4, 3.
 pub fn verdict(l: Limits, series: &[i16]) -> u16
     requires { ⌜ Bounded (l .sums) ⌝ }
-    ensures { λ r. ⌜ r ≡ guide.verdict (limitsSay l) (now (series .entry)) ⌝ }
+    ensures { λ r. ⌜ r ≡ rules.verdict (limitsSay l) (now (series .entry)) ⌝ }
 {
     if control_test(l, series) {
         return 1;
@@ -48,7 +43,7 @@ pub fn verdict(l: Limits, series: &[i16]) -> u16
 
 // The status that a verdict sets.
 pub fn status_for(verdict: u16) -> u16
-    ensures { λ r. ⌜ r ≡ guide.statusFor verdict ⌝ }
+    ensures { λ r. ⌜ r ≡ rules.statusFor verdict ⌝ }
 {
     if verdict == 0 {
         return 0;
@@ -61,7 +56,7 @@ pub fn status_for(verdict: u16) -> u16
 
 fn control_test(l: Limits, series: &[i16]) -> bool
     requires { ⌜ Bounded (l .sums) ⌝ }
-    ensures { λ r. ⌜ r ≡ guide.controlTest (limitsSay l) (now (series .entry)) ⌝ }
+    ensures { λ r. ⌜ r ≡ rules.controlTest (limitsSay l) (now (series .entry)) ⌝ }
 {
     let m = series.len();
     if m < 1 {
@@ -73,7 +68,7 @@ fn control_test(l: Limits, series: &[i16]) -> bool
 
 fn warning_test(l: Limits, series: &[i16]) -> bool
     requires { ⌜ Bounded (l .sums) ⌝ }
-    ensures { λ r. ⌜ r ≡ guide.warningTest (limitsSay l) (now (series .entry)) ⌝ }
+    ensures { λ r. ⌜ r ≡ rules.warningTest (limitsSay l) (now (series .entry)) ⌝ }
 {
     let m = series.len();
     if m < 2 {
@@ -85,7 +80,7 @@ fn warning_test(l: Limits, series: &[i16]) -> bool
 }
 
 fn trend_test(series: &[i16]) -> bool
-    ensures { λ r. ⌜ r ≡ guide.trendTest (now (series .entry)) ⌝ }
+    ensures { λ r. ⌜ r ≡ rules.trendTest (now (series .entry)) ⌝ }
 {
     let t = trend_of(series);
     t.rising | t.falling
@@ -93,7 +88,7 @@ fn trend_test(series: &[i16]) -> bool
 
 fn side_test(l: Limits, series: &[i16]) -> bool
     requires { ⌜ Bounded (l .sums) ⌝ }
-    ensures { λ r. ⌜ r ≡ guide.sideTest (limitsSay l) (now (series .entry)) ⌝ }
+    ensures { λ r. ⌜ r ≡ rules.sideTest (limitsSay l) (now (series .entry)) ⌝ }
 {
     let s = run_side(l, series);
     judges_side(l.kind) & (s.above | s.below)
@@ -121,13 +116,13 @@ pub fn trend_of(series: &[i16]) -> Trend
     orders_of(&series[start..])
 }
 
-pub fn run_side(l: Limits, series: &[i16]) -> RunSide
+pub fn run_side(l: Limits, series: &[i16]) -> Side
     requires { ⌜ Bounded (l .sums) ⌝ }
     ensures { λ r. ⌜ IsRunSide (limitsSay l) (now (series .entry)) r ⌝ }
 {
     let m = series.len();
     if m < RUN {
-        return RunSide {
+        return Side {
             above: false,
             below: false,
         };
@@ -153,7 +148,7 @@ fn orders_of(words: &[i16]) -> Trend
     Trend { rising, falling }
 }
 
-fn sides_of(l: Limits, words: &[i16]) -> RunSide
+fn sides_of(l: Limits, words: &[i16]) -> Side
     requires { ⌜ Bounded (l .sums) ⌝ }
     ensures { λ r. ⌜ AreSides (limitsSay l) (now (words .entry)) r ⌝ }
 {
@@ -166,5 +161,5 @@ fn sides_of(l: Limits, words: &[i16]) -> RunSide
         below = below & s.below;
         i += 1;
     }
-    RunSide { above, below }
+    Side { above, below }
 }

@@ -8,10 +8,10 @@ use lib.IntN.{ℤ, pos, natAbs}
 use mir.Syntax.{w16, w64}
 use mir.Val.{SFits, toZ, ofZ}
 use mir.Facts.{toZ-ofZ}
-use Rattle.guide.specs.Sizes.{baseMost}
-use Rattle.guide.specs.Limits.{vOf, scaledDeviation, exceeds, within}
-use Rattle.guide.proofs.Integers.{square-magnitude}
-use Rattle.guide.proofs.Held.{small-fits}
+use Rattle.rules.specs.Sizes.{baseMost}
+use Rattle.rules.specs.Limits.{vOf, scaledDeviation, exceeds, within}
+use Rattle.rules.proofs.Integers.{square-magnitude}
+use Rattle.rules.proofs.Held.{small-fits}
 use Rattle.limits.specs.declared.Sums.{Sums}
 use Rattle.limits.specs.declared.Squares.{Squares}
 use Rattle.limits.specs.Sums.{sumsSay, Bounded, Comparable, AreSquares}
@@ -37,7 +37,7 @@ squares-none m s d b e =
     (omega (arith, ap (λ (x : ℕ). natAbs d * natAbs d * x) one)) (omega (arith, ap (λ (x : ℕ). m * m * (x * v)) e))
 
 -- the comparison for a d as the computer holds it
-module _ (m : ℕ) (s : Sums) (d : ℤ) (r : Squares) (h : SFits w64 d) (k : AreSquares m (sumsSay s) (toZ w64 (ofZ w64 d)) r) where
+module _ (m : ℕ) (s : Sums) {d : ℤ} {r : Squares} (h : SFits w64 d) (k : AreSquares m (sumsSay s) (toZ w64 (ofZ w64 d)) r) where
   own : AreSquares m (sumsSay s) d r
   own = rw (toZ-ofZ h) at k
 

@@ -6,9 +6,9 @@ use lib.IntN.{ℤ, pos, natAbs, negℤ, _+ℤ_, _-ℤ_, _*ℤ_}
 use mir.Syntax.{w16, w64}
 use mir.Val.{SFits, toZ, ofZ}
 use mir.Facts.{toZ-ofZ, toZ-pos}
-use Rattle.guide.specs.Limits.{scaledDeviation}
-use Rattle.guide.proofs.Integers.{magnitude-plus, magnitude-negated, magnitude-times}
-use Rattle.guide.proofs.Held.{small-fits, Held, held, cast-word, word-small}
+use Rattle.rules.specs.Limits.{scaledDeviation}
+use Rattle.rules.proofs.Integers.{magnitude-plus, magnitude-negated, magnitude-times}
+use Rattle.rules.proofs.Held.{small-fits, Held, held, cast-word, word-small}
 use Rattle.limits.specs.declared.Sums.{Sums}
 use Rattle.limits.specs.Sums.{sumsSay, Bounded}
 use Rattle.limits.proofs.Spread.{sum-small, sum-fits}

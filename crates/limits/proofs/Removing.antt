@@ -10,14 +10,14 @@ use lib.IntN.{ℤ, pos, negsuc, natAbs, negℤ, _+ℤ_, _-ℤ_, _*ℤ_, +ℤ-idr
 use mir.Syntax.{w16, w64}
 use mir.Val.{SFits}
 use mir.Facts.{toZ-ofZ}
-use Rattle.guide.specs.Limits as guide
-use Rattle.guide.specs.Limits.{sumOf, sumOfSquares, sumsOf, sumBy, squareOf}
-use Rattle.guide.specs.Rejection.{without}
-use Rattle.guide.specs.Carried.{only, lessWords}
-use Rattle.guide.proofs.Integers.{square-magnitude, magnitude-plus, magnitude-negated}
-use Rattle.guide.proofs.Limits.{squares-are}
-use Rattle.guide.proofs.Carried.{less-natural, split-count, split-sum, sums-less}
-use Rattle.guide.proofs.Held.{small-fits, Held, held, cast-word}
+use Rattle.rules.specs.Limits as rules
+use Rattle.rules.specs.Limits.{sumOf, sumOfSquares, sumsOf, sumBy, squareOf}
+use Rattle.rules.specs.Rejection.{without}
+use Rattle.rules.specs.Carried.{only, lessWords}
+use Rattle.rules.proofs.Integers.{square-magnitude, magnitude-plus, magnitude-negated}
+use Rattle.rules.proofs.Limits.{squares-are}
+use Rattle.rules.proofs.Carried.{less-natural, split-count, split-sum, sums-less}
+use Rattle.rules.proofs.Held.{small-fits, Held, held, cast-word}
 use Rattle.limits.specs.declared.Sums.{Sums}
 use Rattle.limits.specs.Sums.{sumsSay, AreSums, Removable}
 use Rattle.limits.proofs.Spread.{sum-small}
@@ -60,9 +60,9 @@ module _ (s : Sums) (w : ℤ) (ws : List ℤ) (r : Removable (w ∷ ws) s) where
   removable-rest next e =
       let h : squareOf w ≤ s .q = omega (arith, r .squares) in
       let left = e ∙ sym (less-one s w (s .t -ℤ w) (squareOf w) refl refl h) in
-      let n : next .n ≡ s .n - 1 = ap (λ (x : guide.Sums). x .n) left in
-      let t : next .t ≡ s .t -ℤ w = ap (λ (x : guide.Sums). x .t) left in
-      let q : pos (next .q) ≡ pos (s .q - squareOf w) = ap (λ (x : guide.Sums). x .q) left in
+      let n : next .n ≡ s .n - 1 = ap (λ (x : rules.Sums). x .n) left in
+      let t : next .t ≡ s .t -ℤ w = ap (λ (x : rules.Sums). x .t) left in
+      let q : pos (next .q) ≡ pos (s .q - squareOf w) = ap (λ (x : rules.Sums). x .q) left in
       record {
         count = omega (arith, r .count);
         squares = omega (arith, r .squares, ap natAbs q);
@@ -84,7 +84,7 @@ sizes-below-squares (w ∷ ws) = omega (arith, size-below-square w, sizes-below-
 module _ (test : ℤ → Bool) (ws : List ℤ) (s : Sums) (own : AreSums ws s) where
   squares-own : s .q ≡ sumBy squareOf ws
   unfolding sumsOf
-  squares-own = ap natAbs (ap (λ (x : guide.Sums). x .q) (own .same) ∙ squares-are ws)
+  squares-own = ap natAbs (ap (λ (x : rules.Sums). x .q) (own .same) ∙ squares-are ws)
 
   -- some of the words can be taken away
   pub removable-own : Removable (only test ws) s
@@ -100,10 +100,10 @@ module _ (test : ℤ → Bool) (ws : List ℤ) (s : Sums) (own : AreSums ws s) w
   pub own-less : (next : Sums) → sumsSay next ≡ lessWords (sumsSay s) (only test ws) → AreSums (without test ws) next
   unfolding sumsOf
   own-less next e =
-      let same = e ∙ ap (λ (x : guide.Sums). lessWords x (only test ws)) (own .same) ∙ sums-less test ws in
-      let n : next .n ≡ length (without test ws) = ap (λ (x : guide.Sums). x .n) same in
+      let same = e ∙ ap (λ (x : rules.Sums). lessWords x (only test ws)) (own .same) ∙ sums-less test ws in
+      let n : next .n ≡ length (without test ws) = ap (λ (x : rules.Sums). x .n) same in
       let q : next .q ≡ sumBy squareOf (without test ws) =
-      ap natAbs (ap (λ (x : guide.Sums). x .q) same ∙ squares-are (without test ws)) in
+      ap natAbs (ap (λ (x : rules.Sums). x .q) same ∙ squares-are (without test ws)) in
       are-sums next (without test ws) same
       (omega (arith, split-count test ws, count-is ws s own, own .bounded .few))
       (omega (arith, split-sum test squareOf ws, squares-own, own .bounded .squares))

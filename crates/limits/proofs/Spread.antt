@@ -6,9 +6,9 @@ use native.Mathlib.Nat.{mul-le-mul}
 use lib.IntN.{pos, natAbs}
 use mir.Syntax.{w64}
 use mir.Val.{SFits}
-use Rattle.guide.specs.Limits.{vOf}
-use Rattle.guide.proofs.Integers.{by-order, of-pos, minus, is-pos, square-magnitude}
-use Rattle.guide.proofs.Held.{small-fits}
+use Rattle.rules.specs.Limits.{vOf}
+use Rattle.rules.proofs.Integers.{by-order, of-pos, minus, is-pos, square-magnitude}
+use Rattle.rules.proofs.Held.{small-fits}
 use Rattle.limits.specs.declared.Sums.{Sums}
 use Rattle.limits.specs.Sums.{sumsSay, Bounded}
 

@@ -10,12 +10,12 @@ use lib.IntN.{ℤ, pos, natAbs, _+ℤ_, _-ℤ_, _*ℤ_}
 use mir.Syntax.{w16}
 use mir.Val.{SFits, toZ, ofZ}
 use mir.Facts.{toZ-ofZ}
-use Rattle.guide.specs.Sizes.{baseMost}
-use Rattle.guide.specs.Limits as guide
-use Rattle.guide.specs.Limits.{sumOf, sumOfSquares, sumsOf, vOf, withWord}
-use Rattle.guide.proofs.Integers.{of-pos, minus, agree, square-magnitude}
-use Rattle.guide.proofs.Limits.{v-natural, sums-snoc}
-use Rattle.guide.proofs.Held.{word-square-small}
+use Rattle.rules.specs.Sizes.{baseMost}
+use Rattle.rules.specs.Limits as rules
+use Rattle.rules.specs.Limits.{sumOf, sumOfSquares, sumsOf, vOf, withWord}
+use Rattle.rules.proofs.Integers.{of-pos, minus, agree, square-magnitude}
+use Rattle.rules.proofs.Limits.{v-natural, sums-snoc}
+use Rattle.rules.proofs.Held.{word-square-small}
 use Rattle.limits.specs.declared.Sums.{Sums}
 use Rattle.limits.specs.Sums.{sumsSay, AreSums}
 
@@ -41,7 +41,7 @@ of-none =
 
 pub count-is : (ws : List ℤ) (s : Sums) → AreSums ws s → s .n ≡ length ws
 unfolding sumsOf
-count-is ws s h = ap (λ (x : guide.Sums). x .n) (h .same)
+count-is ws s h = ap (λ (x : rules.Sums). x .n) (h .same)
 
 -- the word at i, as the computer holds it, added to the sums of the words before it
 pub of-one-more : (s r : Sums) (ws : List ℤ) (i : ℕ) → let w = getD ws i (pos 0) in
@@ -50,10 +50,10 @@ pub of-one-more : (s r : Sums) (ws : List ℤ) (i : ℕ) → let w = getD ws i (
 of-one-more s r ws i h fit a few e =
     let w = getD ws i (pos 0) in
     let f : sumsSay r ≡ withWord (sumsSay s) w = rw (toZ-ofZ fit) at e in
-    let n : r .n ≡ s .n + 1 = ap (λ (x : guide.Sums). x .n) f in
+    let n : r .n ≡ s .n + 1 = ap (λ (x : rules.Sums). x .n) f in
     let q : pos (r .q) ≡ pos (s .q + natAbs w * natAbs w) =
-    ap (λ (x : guide.Sums). x .q) f ∙ ap (λ (z : ℤ). pos (s .q) +ℤ z) (square-magnitude w) in
+    ap (λ (x : rules.Sums). x .q) f ∙ ap (λ (z : ℤ). pos (s .q) +ℤ z) (square-magnitude w) in
     let next : take i ws ++ (w ∷ []) ≡ take (i + 1) ws = sym (rw (add-one, take-suc ws i (pos 0))) in
-    let all = f ∙ ap (λ (x : guide.Sums). withWord x w) (a .are .same) ∙ sym (sums-snoc (take i ws) w) ∙ ap sumsOf next in
+    let all = f ∙ ap (λ (x : rules.Sums). withWord x w) (a .are .same) ∙ sym (sums-snoc (take i ws) w) ∙ ap sumsOf next in
     let squares : r .q ≤ 2 ^ 30 * r .n = omega (arith, a .squares, ap natAbs q, word-square-small fit) in
     record { are = are-sums r (take (i + 1) ws) all (omega arith) (omega arith); squares = squares }

@@ -9,17 +9,20 @@ ghost use mathlib.Core.List.{[], _∷_};
 ghost use Prim.Native.Nat.{_≤_, _<_};
 ghost use lib.ListN.{length};
 ghost use lib.IntN.{pos, natAbs};
-ghost use Rattle.guide.specs.Sizes.{baseMost};
-ghost use Rattle.guide.specs.Kind.{hasLower};
-ghost use Rattle.guide.specs.Limits as guide;
-ghost use Rattle.guide.specs.Carried.{lessWords};
-ghost use Rattle.limits.specs.Sums.{sumsSay, limitsSay, AreSums, AreLimits, Bounded, Removable, Comparable, AreSquares};
+ghost use Rattle.rules.specs.Sizes.{baseMost};
+ghost use Rattle.rules.specs.Kind.{hasLower};
+ghost use Rattle.rules.specs.Limits as rules;
+ghost use Rattle.rules.specs.Carried.{lessWords};
+ghost use Rattle.limits.specs.Sums.{sumsSay, limitsSay, AreSums, AreLimits, Bounded, CanAdd, Removable, Comparable, AreSquares};
 ghost use Rattle.limits.specs.Sums.{IsBeyond, IsBeyondWarning, IsSide};
 
 // Control limits are the mean ± 3S, warning limits the mean ± 2S.
 pub const CONTROL: u8 = 3;
 
 pub const WARNING: u8 = 2;
+
+// Lines are whole numbers of 256ths.
+pub const LINE_PARTS: usize = 256;
 
 // The number n of words, their sum T, and the sum Q of their squares. They give V = n·Q − T².
 pub struct Sums {
@@ -34,7 +37,7 @@ pub struct BeyondLimits {
     pub lower: bool,
 }
 
-// Whether a word is strictly above the mean, and whether it is strictly below it.
+// Whether a word, or each word of a run, is strictly above the mean, and whether it is strictly below it.
 pub struct Side {
     pub above: bool,
     pub below: bool,
@@ -76,7 +79,7 @@ pub fn limits_of(kind: u16, words: &[i16]) -> Limits
 
 pub fn beyond_control(l: Limits, w: i16) -> bool
     requires { ⌜ Bounded (l .sums) ⌝ }
-    ensures { λ r. ⌜ r ≡ guide.beyondControl (limitsSay l) w ⌝ }
+    ensures { λ r. ⌜ r ≡ rules.beyondControl (limitsSay l) w ⌝ }
 {
     let b = beyond(CONTROL, l, w);
     b.upper | b.lower
@@ -93,7 +96,7 @@ pub fn beyond_warning(l: Limits, w: i16) -> BeyondLimits
 // |w − mean| < S
 pub fn near_mean(l: Limits, w: i16) -> bool
     requires { ⌜ Bounded (l .sums) ⌝ }
-    ensures { λ r. ⌜ r ≡ guide.nearMean (sumsSay (l .sums)) w ⌝ }
+    ensures { λ r. ⌜ r ≡ rules.nearMean (sumsSay (l .sums)) w ⌝ }
 {
     let s = l.sums;
     let d = scaled_deviation(s, w);
@@ -135,7 +138,7 @@ pub fn has_lower(kind: u16) -> bool
 // Whether a deviation of d / n, up or down, is more than m·S.
 fn exceeds(m: u16, s: Sums, d: i64) -> bool
     requires { ⌜ Comparable m s d ⌝ }
-    ensures { λ r. ⌜ r ≡ guide.exceeds m (sumsSay s) d ⌝ }
+    ensures { λ r. ⌜ r ≡ rules.exceeds m (sumsSay s) d ⌝ }
 {
     let x = squares_of(m, s, d);
     x.limit < x.deviation
@@ -144,7 +147,7 @@ fn exceeds(m: u16, s: Sums, d: i64) -> bool
 // Whether a deviation of d / n, up or down, is less than m·S.
 fn within(m: u16, s: Sums, d: i64) -> bool
     requires { ⌜ Comparable m s d ⌝ }
-    ensures { λ r. ⌜ r ≡ guide.within m (sumsSay s) d ⌝ }
+    ensures { λ r. ⌜ r ≡ rules.within m (sumsSay s) d ⌝ }
 {
     let x = squares_of(m, s, d);
     x.deviation < x.limit
@@ -174,7 +177,7 @@ fn squares_of(m: u16, s: Sums, d: i64) -> Squares
 // V = n·Q − T²
 pub fn v_of(s: Sums) -> u64
     requires { ⌜ Bounded s ⌝ }
-    ensures { λ r. ⌜ pos r ≡ guide.vOf (sumsSay s) ⌝ }
+    ensures { λ r. ⌜ pos r ≡ rules.vOf (sumsSay s) ⌝ }
 {
     let a = magnitude(s.t);
     s.n * s.q - a * a
@@ -183,15 +186,15 @@ pub fn v_of(s: Sums) -> u64
 // n·w − T, which is n times the deviation of w from the mean.
 fn scaled_deviation(s: Sums, w: i16) -> i64
     requires { ⌜ Bounded s ⌝ }
-    ensures { λ r. ⌜ r ≡ guide.scaledDeviation (sumsSay s) w ⌝ }
+    ensures { λ r. ⌜ r ≡ rules.scaledDeviation (sumsSay s) w ⌝ }
 {
     (s.n as i64) * (w as i64) - s.t
 }
 
 // The sums after one more word.
 fn with_word(s: Sums, w: i16) -> Sums
-    requires { ⌜ (s .n < baseMost) × Bounded s ⌝ }
-    ensures { λ r. ⌜ sumsSay r ≡ guide.withWord (sumsSay s) w ⌝ }
+    requires { ⌜ CanAdd s ⌝ }
+    ensures { λ r. ⌜ sumsSay r ≡ rules.withWord (sumsSay s) w ⌝ }
 {
     Sums {
         n: s.n + 1,
@@ -212,7 +215,7 @@ pub fn without_word(s: Sums, w: i16) -> Sums
 }
 
 fn square(w: i16) -> u64
-    ensures { λ r. ⌜ r ≡ guide.squareOf w ⌝ }
+    ensures { λ r. ⌜ r ≡ rules.squareOf w ⌝ }
 {
     let a = magnitude(w as i64);
     a * a

@@ -11,19 +11,21 @@ use lib.Ieee.{Float}
 use mir.Syntax.{w16}
 use mir.Val.{SFits, toZ, ofZ}
 use mir.Facts.{toZ-ofZ}
-use Rattle.guide.specs.Kind.{hasLower}
-use Rattle.guide.specs.Limits as limits
-use Rattle.guide.specs.Limits.{sumsOf, limitsOf, sumOfSquares, controlMultiple, warningMultiple}
-use Rattle.guide.specs.State.{limitsFor}
-use Rattle.guide.specs.Double.{doubleOf}
-use Rattle.guide.specs.Sizes.{lineParts}
-use Rattle.guide.specs.Lines.{greatestDeviation, upperLine, meanLine}
-use Rattle.guide.specs.ChartLines as guide
-use Rattle.guide.specs.ChartLines.{linesGiven, refused, linesOf, beyondEach}
-use Rattle.guide.proofs.Held.{word-small}
-use Rattle.guide.proofs.Limits.{v-natural}
-use Rattle.guide.proofs.Lines.{judged-by-lines, in-range-squares}
-use Rattle.guide.proofs.Soundness.{sound-facts}
+use Rattle.rules.specs.Outcome.{given, refused}
+use Rattle.rules.specs.Kind.{hasLower}
+use Rattle.rules.specs.Limits as limits
+use Rattle.rules.specs.Limits.{sumsOf, limitsOf, sumOfSquares, controlMultiple, warningMultiple}
+use Rattle.rules.specs.Limits.{beyondUpperControl, beyondLowerControl, beyondUpperWarning, beyondLowerWarning}
+use Rattle.rules.specs.State.{limitsFor}
+use Rattle.rules.specs.Double.{doubleOf}
+use Rattle.rules.specs.Sizes.{lineParts}
+use Rattle.rules.specs.Lines.{greatestDeviation, upperLine, meanLine}
+use Rattle.rules.specs.ChartLines as rules
+use Rattle.rules.specs.ChartLines.{linesOf, beyondEach}
+use Rattle.rules.proofs.Held.{word-small}
+use Rattle.rules.proofs.Limits.{v-natural}
+use Rattle.rules.proofs.Lines.{judged-by-lines, in-range-squares}
+use Rattle.rules.proofs.Soundness.{sound-facts}
 use Rattle.limits.specs.declared.Limits.{Limits}
 use Rattle.limits.specs.declared.BeyondLimits.{BeyondLimits}
 use Rattle.limits.specs.Sums.{sumsSay, limitsSay, IsBeyond}
@@ -34,30 +36,32 @@ use Rattle.chart.proofs.SoundCharts.{sound-chart-facts}
 use Rattle.lines.specs.declared.Lines.{Lines}
 use Rattle.lines.specs.declared.BeyondEach.{BeyondEach}
 use Rattle.lines.specs.declared.Lines.the-variants.{Duplicate, TwoSided}
-use Rattle.lines.specs.Lines.{linesSay, beyondSays, compared, declined, answerToLines, answerToAgainst, floatBeyond}
+use Rattle.lines.specs.Lines.{linesSay, beyondSays, answerToLines, answerToAgainst, floatBeyond}
 use Rattle.lines.specs.Lines.{upperLineBy, lowerLineBy, HasLines}
 use Rattle.lines.proofs.LineParts.{upper-by, lower-by}
 use Rattle.lines.proofs.Comparing.{float-beyond}
 
 -- ---- the lines that limits give, line by line
 
--- from the deviations for the two multiples
-module _ (l : Limits) (warning control : ℕ)
-    (w : warning ≡ greatestDeviation (lineParts * warningMultiple) (sumsSay (l .sums)))
-    (c : control ≡ greatestDeviation (lineParts * controlMultiple) (sumsSay (l .sums)))
-    (mean upperWarning upperControl : Float)
-    (m : mean ≡ doubleOf (meanLine (sumsSay (l .sums))))
-    (uw : upperWarning ≡ doubleOf (upperLineBy warning (sumsSay (l .sums))))
-    (uc : upperControl ≡ doubleOf (upperLineBy control (sumsSay (l .sums)))) where
+-- the deviations for the two multiples, and the lines that every chart has
+pub record UpperLines (l : Limits) (warning control : ℕ) (mean upperWarning upperControl : Float) : Type 0 where
+  pub of-warning : warning ≡ greatestDeviation (lineParts * warningMultiple) (sumsSay (l .sums))
+  pub of-control : control ≡ greatestDeviation (lineParts * controlMultiple) (sumsSay (l .sums))
+  pub of-mean : mean ≡ doubleOf (meanLine (sumsSay (l .sums)))
+  pub of-upper-warning : upperWarning ≡ doubleOf (upperLineBy warning (sumsSay (l .sums)))
+  pub of-upper-control : upperControl ≡ doubleOf (upperLineBy control (sumsSay (l .sums)))
+
+module _ {l : Limits} {warning control : ℕ} {mean upperWarning upperControl : Float}
+    (u : UpperLines l warning control mean upperWarning upperControl) where
   upper-warning : upperWarning ≡ doubleOf (upperLine warningMultiple (sumsSay (l .sums)))
-  upper-warning = uw ∙ ap doubleOf (upper-by warningMultiple warning (sumsSay (l .sums)) w)
+  upper-warning = u .of-upper-warning ∙ ap doubleOf (upper-by warningMultiple warning (sumsSay (l .sums)) (u .of-warning))
 
   upper-control : upperControl ≡ doubleOf (upperLine controlMultiple (sumsSay (l .sums)))
-  upper-control = uc ∙ ap doubleOf (upper-by controlMultiple control (sumsSay (l .sums)) c)
+  upper-control = u .of-upper-control ∙ ap doubleOf (upper-by controlMultiple control (sumsSay (l .sums)) (u .of-control))
 
   pub duplicate-lines : hasLower (l .kind) ≡ false → linesSay (Duplicate mean upperWarning upperControl) ≡ linesOf (limitsSay l)
   unfolding linesSay linesOf
-  duplicate-lines t = rw t (λ i. guide.duplicate (m i) (upper-warning i) (upper-control i))
+  duplicate-lines t = rw t (λ i. rules.duplicate (u .of-mean i) (upper-warning i) (upper-control i))
 
   pub two-sided-lines : (lowerWarning lowerControl : Float) → lowerWarning ≡ doubleOf (lowerLineBy warning (sumsSay (l .sums)))
       → lowerControl ≡ doubleOf (lowerLineBy control (sumsSay (l .sums))) → hasLower (l .kind) ≡ true
@@ -70,9 +74,9 @@ module _ (l : Limits) (warning control : ℕ)
       })) ≡ linesOf (limitsSay l)
   unfolding linesSay linesOf
   two-sided-lines lowerWarning lowerControl lw lc t =
-      let lower-warning = lw ∙ ap doubleOf (lower-by warningMultiple warning (sumsSay (l .sums)) w) in
-      let lower-control = lc ∙ ap doubleOf (lower-by controlMultiple control (sumsSay (l .sums)) c) in
-      rw t (λ i. guide.twoSided (m i) (lower-warning i) (upper-warning i) (lower-control i) (upper-control i))
+      let lower-warning = lw ∙ ap doubleOf (lower-by warningMultiple warning (sumsSay (l .sums)) (u .of-warning)) in
+      let lower-control = lc ∙ ap doubleOf (lower-by controlMultiple control (sumsSay (l .sums)) (u .of-control)) in
+      rw t (λ i. rules.twoSided (u .of-mean i) (lower-warning i) (upper-warning i) (lower-control i) (upper-control i))
 
 -- ---- a word against limits that the program holds
 
@@ -85,7 +89,7 @@ pub limits-compared : {limits : limits.Limits} (l : Limits) (w : ℤ) → SFits 
       «lower_control» = control .lower;
       «upper_control» = control .upper;
     }) ≡ beyondEach limits w
-unfolding beyondSays beyondEach
+unfolding beyondSays beyondEach beyondUpperControl beyondLowerControl beyondUpperWarning beyondLowerWarning
 limits-compared l w fit warning control same at-warning at-control =
     (λ i. record {
       lowerWarning = at-warning .lower i;
@@ -112,12 +116,12 @@ module _ (c : Chart) (t : soundChart c ≡ true) where
         squares = omega (arith, in-range-squares (s .kind) (s .base) (facts .base-in-range));
       }
 
-  pub lines-given : (lines : Lines) → linesSay lines ≡ linesOf (limitsFor (stateOf c)) → linesGiven (linesSay lines) ≡ answerToLines c
+  pub lines-given : (lines : Lines) → linesSay lines ≡ linesOf (limitsFor (stateOf c)) → given (linesSay lines) ≡ answerToLines c
   unfolding answerToLines
-  lines-given lines e = rw t (ap linesGiven e)
+  lines-given lines e = rw t (ap given e)
 
   -- a word is beyond the chart's lines exactly if it is beyond its limits
-  judged-by-chart : (w : ℤ) → guide.beyondLines (linesOf (limitsFor (stateOf c))) w ≡ beyondEach (limitsFor (stateOf c)) w
+  judged-by-chart : (w : ℤ) → rules.beyondLines (linesOf (limitsFor (stateOf c))) w ≡ beyondEach (limitsFor (stateOf c)) w
   unfolding limitsFor limitsOf sumsOf
   judged-by-chart w =
       let s = stateOf c in
@@ -133,9 +137,9 @@ module _ (c : Chart) (t : soundChart c ≡ true) where
       held ∙ ap (λ x. floatBeyond x w) same ∙ float-beyond w (omega arith) limits ∙ judged-by-chart w
 
   pub comparison-given : (w : ℤ) (b : BeyondEach) → beyondSays b ≡ beyondEach (limitsFor (stateOf c)) w
-      → compared (beyondSays b) ≡ answerToAgainst c w
+      → given (beyondSays b) ≡ answerToAgainst c w
   unfolding answerToAgainst
-  comparison-given w b e = rw t (ap compared e)
+  comparison-given w b e = rw t (ap given e)
 
 -- ---- a chart that is not sound
 
@@ -143,6 +147,6 @@ pub lines-declined : (c : Chart) → soundChart c ≡ false → refused 14 ≡ a
 unfolding answerToLines
 lines-declined c t = rw t
 
-pub comparison-declined : (c : Chart) (w : ℤ) → soundChart c ≡ false → declined 14 ≡ answerToAgainst c w
+pub comparison-declined : (c : Chart) (w : ℤ) → soundChart c ≡ false → refused 14 ≡ answerToAgainst c w
 unfolding answerToAgainst
 comparison-declined c w t = rw t

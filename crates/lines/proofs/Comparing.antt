@@ -7,13 +7,13 @@ use lib.Ieee.{Float}
 use mir.Syntax.{w16}
 use mir.Val.{SFits, toZ, ofZ}
 use mir.Facts.{toZ-ofZ}
-use Rattle.guide.specs.Kind.{hasLower}
-use Rattle.guide.specs.Limits.{Limits, controlMultiple, warningMultiple}
-use Rattle.guide.specs.Double.{doubleOf}
-use Rattle.guide.specs.Lines.{upperLine, lowerLine}
-use Rattle.guide.specs.ChartLines.{linesOf, aboveLine, belowLine, beyondBy, beyondLines}
-use Rattle.guide.proofs.Choice.{choose-ind}
-use Rattle.guide.proofs.Double.{above-is, below-is, double-denotes, parts-of-double}
+use Rattle.rules.specs.Kind.{hasLower}
+use Rattle.rules.specs.Limits.{Limits, controlMultiple, warningMultiple}
+use Rattle.rules.specs.Double.{doubleOf}
+use Rattle.rules.specs.Lines.{upperLine, lowerLine}
+use Rattle.rules.specs.ChartLines.{linesOf, aboveLine, belowLine, beyondBy, beyondLines}
+use Rattle.rules.proofs.Choice.{choose-ind}
+use Rattle.rules.proofs.Double.{above-is, below-is, double-denotes, parts-of-double}
 use Rattle.lines.specs.declared.Lines.{Lines}
 use Rattle.lines.specs.declared.TwoSidedLines.{TwoSidedLines}
 use Rattle.lines.specs.declared.Lines.the-variants.{Duplicate, TwoSided}

@@ -4,18 +4,19 @@ use Prim.Native.Nat.{ℕ, _*_, _-_, _/_, _<_, _≤_, _^_}
 use native.Mathlib.Omega.{arith}
 use native.Mathlib.Nat.{mul-le-mul}
 use lib.IntN.{pos, natAbs}
-use Rattle.guide.specs.Sizes.{lineParts, baseMost}
-use Rattle.guide.specs.Kind.{wordMost}
-use Rattle.guide.specs.SquareRoot.{squareRoot}
-use Rattle.guide.specs.Limits.{vOf}
-use Rattle.guide.specs.Lines.{greatestDeviation}
+use Rattle.rules.specs.Sizes.{lineParts, baseMost}
+use Rattle.rules.specs.Kind.{wordMost}
+use Rattle.rules.specs.SquareRoot.{squareRoot}
+use Rattle.rules.specs.Limits.{vOf, controlMultiple}
+use Rattle.rules.specs.Lines.{greatestDeviation}
 use Rattle.limits.specs.declared.Sums.{Sums}
 use Rattle.limits.specs.Sums.{sumsSay}
 use Rattle.limits.proofs.Spread.{v-is}
 use Rattle.lines.specs.Lines.{HasLines}
 
-pub square-small : (m : ℕ) → m ≤ 3 → lineParts * m * (lineParts * m) ≤ lineParts * 3 * (lineParts * 3)
-square-small m few = let h : lineParts * m ≤ lineParts * 3 = omega arith in mul-le-mul h h
+pub square-small : (m : ℕ) → m ≤ controlMultiple
+    → lineParts * m * (lineParts * m) ≤ lineParts * controlMultiple * (lineParts * controlMultiple)
+square-small m few = let h : lineParts * m ≤ lineParts * controlMultiple = omega arith in mul-le-mul h h
 
 module _ (s : Sums) (d : HasLines s) (v : ℕ) (e : pos v ≡ vOf (sumsSay s)) where
   v-small : v ≤ baseMost * (wordMost * wordMost * baseMost)
@@ -26,7 +27,7 @@ module _ (s : Sums) (d : HasLines s) (v : ℕ) (e : pos v ≡ vOf (sumsSay s)) w
   pub nv-small : s .n * v ≤ baseMost * (baseMost * (wordMost * wordMost * baseMost))
   nv-small = mul-le-mul (d .bounded .few) v-small
 
-  pub product-fits : (m : ℕ) → m ≤ 3 → lineParts * m * (lineParts * m) * (s .n * v) < 2 ^ 64
+  pub product-fits : (m : ℕ) → m ≤ controlMultiple → lineParts * m * (lineParts * m) * (s .n * v) < 2 ^ 64
   product-fits m few = omega (arith, mul-le-mul (square-small m few) nv-small)
 
 pub deviation-is : (m : ℕ) (s : Sums) (v : ℕ) → pos v ≡ vOf (sumsSay s)

@@ -9,10 +9,10 @@ use lib.Ieee.{Float, fin, binary64, inFloat, ofInt, round, size, units, odd, div
 use mir.Syntax.{w64}
 use mir.Val.{SFits, toZ, ofZ}
 use mir.Facts.{toZ-ofZ}
-use Rattle.guide.specs.Sizes.{lineParts}
-use Rattle.guide.specs.Double.{doubleOf}
-use Rattle.guide.proofs.Double.{quotient-is}
-use Rattle.guide.proofs.Held.{small-fits}
+use Rattle.rules.specs.Sizes.{lineParts}
+use Rattle.rules.specs.Double.{doubleOf}
+use Rattle.rules.proofs.Double.{quotient-is}
+use Rattle.rules.proofs.Held.{small-fits}
 use Rattle.lines.specs.Lines.{IsParts}
 
 -- a whole number of at most 2^53 in size can be cast to a double

@@ -8,23 +8,23 @@ use native.Mathlib.Nat.{mul-le-mul, div-le-self}
 use lib.ListN.{length}
 use lib.Dec.{lit≤}
 use lib.IntN.{ℤ, pos, natAbs, _+ℤ_, _-ℤ_, _*ℤ_}
-use Rattle.guide.specs.Sizes.{lineParts, baseMost}
-use Rattle.guide.specs.Kind.{hasLower}
-use Rattle.guide.specs.Building.{allInRange}
-use Rattle.guide.specs.SquareRoot.{squareRoot}
-use Rattle.guide.specs.Limits as limits
-use Rattle.guide.specs.Limits.{sumOf, sumOfSquares, sumsOf, limitsOf, controlMultiple, warningMultiple}
-use Rattle.guide.specs.State.{limitsFor}
-use Rattle.guide.specs.Double.{doubleOf}
-use Rattle.guide.specs.Lines.{greatestDeviation, upperLine, lowerLine, meanLine}
-use Rattle.guide.specs.ChartLines.{linesOf}
-use Rattle.guide.proofs.Choice.{choose-ind}
-use Rattle.guide.proofs.Integers.{by-order}
-use Rattle.guide.proofs.Limits.{squares-are}
-use Rattle.guide.proofs.Lines.{in-range-squares}
-use Rattle.guide.proofs.SquareRoot.{root-is}
-use Rattle.guide.proofs.Soundness.{sound-facts}
-use Rattle.guide.proofs.Double.{parts-of-double}
+use Rattle.rules.specs.Sizes.{lineParts, baseMost}
+use Rattle.rules.specs.Kind.{hasLower}
+use Rattle.rules.specs.Building.{allInRange}
+use Rattle.rules.specs.SquareRoot.{squareRoot}
+use Rattle.rules.specs.Limits as limits
+use Rattle.rules.specs.Limits.{sumOf, sumOfSquares, sumsOf, limitsOf, controlMultiple, warningMultiple}
+use Rattle.rules.specs.State.{limitsFor}
+use Rattle.rules.specs.Double.{doubleOf}
+use Rattle.rules.specs.Lines.{greatestDeviation, upperLine, lowerLine, meanLine}
+use Rattle.rules.specs.ChartLines.{linesOf}
+use Rattle.rules.proofs.Choice.{choose-ind}
+use Rattle.rules.proofs.Integers.{by-order}
+use Rattle.rules.proofs.Limits.{squares-are}
+use Rattle.rules.proofs.Lines.{in-range-squares}
+use Rattle.rules.proofs.SquareRoot.{root-is}
+use Rattle.rules.proofs.Soundness.{sound-facts}
+use Rattle.rules.proofs.Double.{parts-of-double}
 use Rattle.limits.specs.declared.Sums.{Sums}
 use Rattle.limits.specs.declared.Limits.{Limits}
 use Rattle.limits.specs.Sums.{sumsSay, Bounded}
@@ -51,7 +51,7 @@ root-small q h =
     (λ g. g)
 
 module _ (s : Sums) (has : HasLines s) where
-  deviation-small : (m : ℕ) → m ≤ 3 → greatestDeviation (lineParts * m) (sumsSay s) < 2 ^ 32
+  deviation-small : (m : ℕ) → m ≤ controlMultiple → greatestDeviation (lineParts * m) (sumsSay s) < 2 ^ 32
   deviation-small m few =
       let v = s .n * s .q - natAbs (s .t) * natAbs (s .t) in
       let e = v-is s (has .bounded) in
@@ -63,19 +63,19 @@ module _ (s : Sums) (has : HasLines s) where
   unfolding meanLine
   mean-small = let z = pos lineParts *ℤ s .t in omega (arith, down-small z (s .n), parts-small s (has .bounded))
 
-  upper-small : (m : ℕ) → m ≤ 3 → natAbs (upperLine m (sumsSay s)) ≤ 2 ^ 34
+  upper-small : (m : ℕ) → m ≤ controlMultiple → natAbs (upperLine m (sumsSay s)) ≤ 2 ^ 34
   unfolding upperLine
   upper-small m few =
       let d = greatestDeviation (lineParts * m) (sumsSay s) in
       let z = pos lineParts *ℤ s .t +ℤ pos d in
-      omega (arith, down-small z (s .n), plus-small s (has .bounded) (pos lineParts *ℤ s .t) refl d (deviation-small m few))
+      omega (arith, down-small z (s .n), plus-small s (has .bounded) d (deviation-small m few))
 
-  lower-small : (m : ℕ) → m ≤ 3 → natAbs (lowerLine m (sumsSay s)) ≤ 2 ^ 34
+  lower-small : (m : ℕ) → m ≤ controlMultiple → natAbs (lowerLine m (sumsSay s)) ≤ 2 ^ 34
   unfolding lowerLine
   lower-small m few =
       let d = greatestDeviation (lineParts * m) (sumsSay s) in
       let z = pos lineParts *ℤ s .t -ℤ pos d in
-      omega (arith, up-small z (s .n), minus-small s (has .bounded) (pos lineParts *ℤ s .t) refl d (deviation-small m few))
+      omega (arith, up-small z (s .n), minus-small s (has .bounded) d (deviation-small m few))
 
   pub small-lines : AreSmallLines (sumsSay s)
   small-lines = record { of-mean = mean-small; of-upper = upper-small; of-lower = lower-small }

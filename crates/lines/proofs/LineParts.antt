@@ -6,11 +6,11 @@ use lib.IntN.{ℤ, pos, natAbs, negℤ, _+ℤ_, _-ℤ_, _*ℤ_}
 use mir.Syntax.{w64}
 use mir.Val.{toZ, ofZ}
 use mir.Facts.{toZ-ofZ, toZ-pos}
-use Rattle.guide.specs.Sizes.{lineParts}
-use Rattle.guide.specs.Limits as limits
-use Rattle.guide.specs.Lines.{quotientDown, quotientUp, greatestDeviation, upperLine, lowerLine, meanLine}
-use Rattle.guide.proofs.Integers.{magnitude-plus, magnitude-negated, magnitude-times}
-use Rattle.guide.proofs.Held.{small-fits, Held, held}
+use Rattle.rules.specs.Sizes.{lineParts}
+use Rattle.rules.specs.Limits as limits
+use Rattle.rules.specs.Lines.{quotientDown, quotientUp, greatestDeviation, upperLine, lowerLine, meanLine}
+use Rattle.rules.proofs.Integers.{magnitude-plus, magnitude-negated, magnitude-times}
+use Rattle.rules.proofs.Held.{small-fits, Held, held}
 use Rattle.limits.specs.declared.Sums.{Sums}
 use Rattle.limits.specs.Sums.{sumsSay, Bounded}
 use Rattle.limits.proofs.Spread.{sum-small, sum-fits}
@@ -41,34 +41,50 @@ module _ (s : Sums) (b : Bounded s) (t : ℤ) (e : t ≡ pos lineParts *ℤ s .t
   mean-parts r f =
       are-parts _ r (rw held-sum at f) (omega (arith, down-small (pos lineParts *ℤ s .t) (s .n), parts-small s b))
 
-  -- 256·T + d and 256·T − d, for a d of 32 bits
-  module _ (d : ℕ) (few : d < 2 ^ 32) where
-    pub plus-small : natAbs (pos lineParts *ℤ s .t +ℤ pos d) ≤ 2 ^ 34
-    plus-small = omega (arith, parts-small s b, magnitude-plus (pos lineParts *ℤ s .t) (pos d))
+-- 256·T + d and 256·T − d, for a d of 32 bits
+module _ (s : Sums) (b : Bounded s) (d : ℕ) (few : d < 2 ^ 32) where
+  pub plus-small : natAbs (pos lineParts *ℤ s .t +ℤ pos d) ≤ 2 ^ 34
+  plus-small = omega (arith, parts-small s b, magnitude-plus (pos lineParts *ℤ s .t) (pos d))
 
-    pub minus-small : natAbs (pos lineParts *ℤ s .t -ℤ pos d) ≤ 2 ^ 34
-    minus-small = omega (arith, parts-small s b, magnitude-plus (pos lineParts *ℤ s .t) (negℤ (pos d)), magnitude-negated (pos d))
+  pub minus-small : natAbs (pos lineParts *ℤ s .t -ℤ pos d) ≤ 2 ^ 34
+  minus-small = omega (arith, parts-small s b, magnitude-plus (pos lineParts *ℤ s .t) (negℤ (pos d)), magnitude-negated (pos d))
 
-    pub plus-held : Held (toZ w64 (ofZ w64 t) +ℤ toZ w64 d) (pos lineParts *ℤ s .t +ℤ pos d)
-    plus-held = held (rw (held-sum, toZ-pos w64 {n = d} (omega arith))) (small-fits (omega (arith, plus-small)))
+-- .. as the program holds them: t is the 256·T that it worked out
+pub record Terms (s : Sums) (t : ℤ) (d : ℕ) : Type 0 where
+  pub bounded : Bounded s
+  pub sum-is : t ≡ pos lineParts *ℤ s .t
+  pub few : d < 2 ^ 32
 
-    pub minus-held : Held (toZ w64 (ofZ w64 t) -ℤ toZ w64 d) (pos lineParts *ℤ s .t -ℤ pos d)
-    minus-held = held (rw (held-sum, toZ-pos w64 {n = d} (omega arith))) (small-fits (omega (arith, minus-small)))
+module _ {s : Sums} {t : ℤ} {d : ℕ} (terms : Terms s t d) where
+  sum-held : toZ w64 (ofZ w64 t) ≡ pos lineParts *ℤ s .t
+  sum-held = held-sum s (terms .bounded) t (terms .sum-is)
 
-    -- .. divided by n
-    pub upper-parts : (r : ℤ) → r ≡ quotientDown (toZ w64 (ofZ w64 (toZ w64 (ofZ w64 t) +ℤ toZ w64 d))) (s .n)
-        → IsParts (upperLineBy d (sumsSay s)) (toZ w64 (ofZ w64 r))
-    unfolding upperLineBy
-    upper-parts r f =
-        let z = pos lineParts *ℤ s .t +ℤ pos d in
-        are-parts (quotientDown z (s .n)) r (rw (plus-held .is) at f) (omega (arith, down-small z (s .n), plus-small))
+  pub plus-held : Held (toZ w64 (ofZ w64 t) +ℤ toZ w64 d) (pos lineParts *ℤ s .t +ℤ pos d)
+  plus-held =
+      held (rw (sum-held, toZ-pos w64 {n = d} (omega (arith, terms .few))))
+      (small-fits (omega (arith, plus-small s (terms .bounded) d (terms .few))))
 
-    pub lower-parts : (r : ℤ) → r ≡ quotientUp (toZ w64 (ofZ w64 (toZ w64 (ofZ w64 t) -ℤ toZ w64 d))) (s .n)
-        → IsParts (lowerLineBy d (sumsSay s)) (toZ w64 (ofZ w64 r))
-    unfolding lowerLineBy
-    lower-parts r f =
-        let z = pos lineParts *ℤ s .t -ℤ pos d in
-        are-parts (quotientUp z (s .n)) r (rw (minus-held .is) at f) (omega (arith, up-small z (s .n), minus-small))
+  pub minus-held : Held (toZ w64 (ofZ w64 t) -ℤ toZ w64 d) (pos lineParts *ℤ s .t -ℤ pos d)
+  minus-held =
+      held (rw (sum-held, toZ-pos w64 {n = d} (omega (arith, terms .few))))
+      (small-fits (omega (arith, minus-small s (terms .bounded) d (terms .few))))
+
+  -- .. divided by n
+  pub upper-parts : (r : ℤ) → r ≡ quotientDown (toZ w64 (ofZ w64 (toZ w64 (ofZ w64 t) +ℤ toZ w64 d))) (s .n)
+      → IsParts (upperLineBy d (sumsSay s)) (toZ w64 (ofZ w64 r))
+  unfolding upperLineBy
+  upper-parts r f =
+      let z = pos lineParts *ℤ s .t +ℤ pos d in
+      let small = plus-small s (terms .bounded) d (terms .few) in
+      are-parts (quotientDown z (s .n)) r (rw (plus-held .is) at f) (omega (arith, down-small z (s .n), small))
+
+  pub lower-parts : (r : ℤ) → r ≡ quotientUp (toZ w64 (ofZ w64 (toZ w64 (ofZ w64 t) -ℤ toZ w64 d))) (s .n)
+      → IsParts (lowerLineBy d (sumsSay s)) (toZ w64 (ofZ w64 r))
+  unfolding lowerLineBy
+  lower-parts r f =
+      let z = pos lineParts *ℤ s .t -ℤ pos d in
+      let small = minus-small s (terms .bounded) d (terms .few) in
+      are-parts (quotientUp z (s .n)) r (rw (minus-held .is) at f) (omega (arith, up-small z (s .n), small))
 
 -- the greatest d for which d / n is at most 256·m·S gives the line for the multiple m
 module _ (m d : ℕ) (s : limits.Sums) (is : d ≡ greatestDeviation (lineParts * m) s) where

@@ -6,9 +6,9 @@ use native.Mathlib.Nat.{le-dest, one-mul, mul-le-mul, mul-le-mul-left, lt-mul-di
 use lib.Dec.{lit<}
 use lib.Pow.{pow-pos, pow-mono, pow-add, shl-exact}
 use lib.Count.{leadingZeros, leading-length}
-use Rattle.guide.specs.SquareRoot.{squareRoot}
-use Rattle.guide.proofs.Integers.{by-order}
-use Rattle.guide.proofs.SquareRoot.{root-only}
+use Rattle.rules.specs.SquareRoot.{squareRoot}
+use Rattle.rules.proofs.Integers.{by-order}
+use Rattle.rules.proofs.SquareRoot.{root-only}
 
 pub record IsGuess (q guess : ℕ) : Type 0 where
   pub not-below : q < (guess + 1) * (guess + 1)
@@ -22,17 +22,17 @@ abbrev pub halfDigits : ℕ → ℕ
 halfDigits q = (65 - leadingZeros 64 q) / 2
 
 pub half-few : (q : ℕ) → q < 2 ^ 64 → halfDigits q ≤ 32
-half-few q h = let l = leading-length 64 q h in omega (arith, l .1)
+half-few q h = let (digits, count, below, not-above) = leading-length 64 q h in omega (arith, count)
 
 -- 2 to that power, as the program shifts it
 pub first-guess : (q : ℕ) → q < 2 ^ 64 → IsGuess q ((1 * 2 ^ halfDigits q) % 2 ^ 64)
 first-guess q h =
     let s = halfDigits q in
     let few = half-few q h in
-    let l = leading-length 64 q h in
-    let twice : l .0 ≤ s + s = omega (arith, l .1) in
+    let (digits, count, below, not-above) = leading-length 64 q h in
+    let twice : digits ≤ s + s = omega (arith, count) in
     let shifted : (1 * 2 ^ s) % 2 ^ 64 ≡ 2 ^ s = shl-exact {a = 1} 1 s 64 (lit< tt) (omega arith) ∙ one-mul (2 ^ s) in
-    let above : q < 2 ^ s * 2 ^ s = omega (arith, l .2, pow-mono twice, pow-add 2 s s) in
+    let above : q < 2 ^ s * 2 ^ s = omega (arith, below, pow-mono twice, pow-add 2 s s) in
     rw shifted (record { not-below = omega arith; some = pow-pos s; most = pow-mono few })
 
 -- ---- a step
@@ -44,10 +44,10 @@ nextGuess q guess = (guess + q / guess) / 2
 squares-more : (a b : ℕ) → 2 * (a * b) ≤ a * a + b * b
 squares-more a b =
     by-order a b
-    (λ h. let d = le-dest h in omega (arith, ap (λ (x : ℕ). b * x) (d .1), ap (λ (x : ℕ). x * x) (d .1)))
+    (λ h. let (d, is) = le-dest h in omega (arith, ap (λ (x : ℕ). b * x) is, ap (λ (x : ℕ). x * x) is))
     (λ h. let more : a ≤ b = omega arith in
-    let d = le-dest more in
-    omega (arith, ap (λ (x : ℕ). a * x) (d .1), ap (λ (x : ℕ). x * x) (d .1)))
+    let (d, is) = le-dest more in
+    omega (arith, ap (λ (x : ℕ). a * x) is, ap (λ (x : ℕ). x * x) is))
 
 -- so the square of the mean of two numbers, rounded up, is not less than their product
 mean-square : (q a b m : ℕ) → q < a * (b + 1) → a + b + 1 ≤ 2 * m → q < m * m
@@ -69,7 +69,7 @@ module _ (q guess : ℕ) (is : IsGuess q guess) where
 
   -- if q / guess is not below the guess, the guess is the root
   square-most : guess ≤ q / guess → guess * guess ≤ q
-  square-most h = le-div-iff-mul-le (is .some) .0 h
+  square-most h = let (least, most) = le-div-iff-mul-le (is .some) in least h
 
   pub root-found : guess ≤ q / guess → guess ≡ squareRoot q
   root-found h = root-only q guess (square-most h) (is .not-below)

@@ -18,13 +18,13 @@ use mir.Syntax.{w64}
 use mir.Val.{SFits, toZ, ofZ}
 use mir.Facts.{toZ-ofZ}
 use borrow.Author.Tests.{lt-ltb, le-ltb, ltb-true}
-use Rattle.guide.specs.Sizes.{lineParts}
-use Rattle.guide.specs.Choice.{choose}
-use Rattle.guide.specs.Double.{partsIn}
-use Rattle.guide.proofs.Booleans.{by-test}
-use Rattle.guide.proofs.Choice.{choose-ind}
-use Rattle.guide.proofs.Held.{small-fits}
-use Rattle.guide.proofs.Integers.{by-order, magnitude-negated}
+use Rattle.rules.specs.Sizes.{lineParts}
+use Rattle.rules.specs.Choice.{choose}
+use Rattle.rules.specs.Double.{partsIn}
+use Rattle.rules.proofs.Booleans.{by-test}
+use Rattle.rules.proofs.Choice.{choose-ind}
+use Rattle.rules.proofs.Held.{small-fits}
+use Rattle.rules.proofs.Integers.{by-order, magnitude-negated}
 use Rattle.lines.specs.Lines.{partsHeld}
 
 -- x times 256.0, which is `fin false 1 (pos 8)`
@@ -66,8 +66,8 @@ module _ (s : Bool) (m : ℕ) (e : ℤ) where
   exact : (j : ℕ) → m < 2 ^ 53 → m * up e * lineParts * 2 ^ 1074 ≡ m * 2 ^ j * down e → m * up e * lineParts / down e < 2 ^ 63
       → HasValue (scaled (fin s m e)) s (m * up e * lineParts) (down e)
   exact j few is h =
-      let below : m * up e * lineParts * 2 ^ 1074 < 2 ^ 63 * down e * 2 ^ 1074 =
-      mul-lt-mul-of-pos-right (div-lt-iff-lt-mul (down-pos e) .0 h) (lit< tt) in
+      let (less, more) = div-lt-iff-lt-mul (down-pos e) in
+      let below : m * up e * lineParts * 2 ^ 1074 < 2 ^ 63 * down e * 2 ^ 1074 = mul-lt-mul-of-pos-right (less h) (lit< tt) in
       let small : m * 2 ^ j < 2 ^ 63 * 2 ^ 1074 =
       lt-of-mul-lt-mul-right (down e) (rw (← is, mul-right-comm (2 ^ 63) (2 ^ 1074) (down e)) below) in
       rw scaled-is (round-exact binary64 s (m * up e * lineParts) (down e) m j (down-pos e) few (lt-of-lt-of-le small (lit≤ tt)) is)
@@ -83,13 +83,13 @@ scaled-value s (suc m) e t h =
     let odd-few-low = and-l (eqb (suc m % 2) 1 && ltb (suc m) (2 ^ 53) && leb (down e) (2 ^ 1074)) _ t in
     let few = ltb→lt (suc m) (2 ^ 53) (and-r (eqb (suc m % 2) 1) _ (and-l (eqb (suc m % 2) 1 && ltb (suc m) (2 ^ 53)) _ odd-few-low)) in
     let low = leb→le (down e) (2 ^ 1074) (and-r (eqb (suc m % 2) 1 && ltb (suc m) (2 ^ 53)) _ odd-few-low) in
-    let j = power e low in
-    let is : suc m * up e * lineParts * 2 ^ 1074 ≡ suc m * 2 ^ j .0 * down e =
+    let (j, power-is) = power e low in
+    let is : suc m * up e * lineParts * 2 ^ 1074 ≡ suc m * 2 ^ j * down e =
     ap (λ (x : ℕ). x * 2 ^ 1074) (mul-assoc (suc m) (up e) lineParts)
     ∙ mul-assoc (suc m) (up e * lineParts) (2 ^ 1074)
-    ∙ ap (λ (x : ℕ). suc m * x) (j .1)
-    ∙ sym (mul-assoc (suc m) (2 ^ j .0) (down e)) in
-    exact s (suc m) e (j .0) few is h
+    ∙ ap (λ (x : ℕ). suc m * x) power-is
+    ∙ sym (mul-assoc (suc m) (2 ^ j) (down e)) in
+    exact s (suc m) e j few is h
 
 -- ---- a double of the size a / c, below 2 ^ 63
 
@@ -99,19 +99,20 @@ record Between (y : Float) (z : ℤ) : Type 0 where
   high : lt y (bound false) ≡ true
   whole : toSigned 63 y ≡ z
 
+below-bound : (m : ℕ) (e : ℤ) → m * up e / down e < 2 ^ 63 → m * up e * 1 < 2 ^ 63 * down e
+below-bound m e h = let (less, more) = div-lt-iff-lt-mul (down-pos e) in rw mul-one (less h)
+
 between-finite : (s : Bool) (m : ℕ) (e : ℤ) → m * up e / down e < 2 ^ 63 → Between (fin s m e) (signed s (m * up e / down e))
 unfolding lt toSigned
 between-finite false m e h =
-    let d = down-pos e in
-    let h′ : m * up e * 1 < 2 ^ 63 * down e = rw mul-one (div-lt-iff-lt-mul d .0 h) in
+    let h′ = below-bound m e h in
     record {
       low = lt-ltb 0 (2 ^ 63 * down e + m * up e * 1) (omega arith);
       high = lt-ltb (m * up e * 1) (2 ^ 63 * down e) h′;
       whole = ap pos (min-eq-left (le-ones 63 h));
     }
 between-finite true m e h =
-    let d = down-pos e in
-    let h′ : m * up e * 1 < 2 ^ 63 * down e = rw mul-one (div-lt-iff-lt-mul d .0 h) in
+    let h′ = below-bound m e h in
     record {
       low = lt-ltb (m * up e * 1) (2 ^ 63 * down e) h′;
       high = lt-ltb 0 (m * up e * 1 + 2 ^ 63 * down e) (omega arith);
@@ -121,10 +122,10 @@ between-finite true m e h =
 between : (y : Float) (s : Bool) (a c : ℕ) → 0 < c → HasValue y s a c → a / c < 2 ^ 63 → Between y (signed s (a / c))
 between nan s a c some v h = absurd v
 between (inf t) s a c some v h = absurd v
-between (fin t m e) s a c some v h =
-    let same : m * up e / down e ≡ a / c = div-same (m * up e) (down e) a c (down-pos e) some (v .1) in
+between (fin t m e) s a c some (sign, magnitude) h =
+    let same : m * up e / down e ≡ a / c = div-same (m * up e) (down e) a c (down-pos e) some magnitude in
     let own = between-finite t m e (rw same h) in
-    subst (λ (z : ℤ). Between (fin t m e) z) (λ i. signed (v .0 i) (same i)) own
+    subst (λ (z : ℤ). Between (fin t m e) z) (λ i. signed (sign i) (same i)) own
 
 -- ---- from 2 ^ 63 on
 
@@ -217,11 +218,11 @@ scaled-finite s m e t = by-order (m * up e * lineParts / down e) (2 ^ 63) (large
 
     large : (s : Bool) → 2 ^ 63 ≤ a / down e → Scaled (fin s m e)
     large true h =
-        let more = le-div-iff-mul-le (down-pos e) .0 h in
-        too-low (rw scaled-is (rounded-low a (down e) (down-pos e) more)) (held-none (fin true m e) (rw parts-size h))
+        let (least, most) = le-div-iff-mul-le (down-pos e) in
+        too-low (rw scaled-is (rounded-low a (down e) (down-pos e) (least h))) (held-none (fin true m e) (rw parts-size h))
     large false h =
-        let more = le-div-iff-mul-le (down-pos e) .0 h in
-        too-high (rw scaled-is (rounded-high a (down e) (down-pos e) more)) (held-none (fin false m e) (rw parts-size h))
+        let (least, most) = le-div-iff-mul-le (down-pos e) in
+        too-high (rw scaled-is (rounded-high a (down e) (down-pos e) (least h))) (held-none (fin false m e) (rw parts-size h))
 
 scaled-any : (x : Float) → T (fits binary64 x) → Scaled x
 unfolding partsIn mul lt
@@ -255,18 +256,17 @@ module _ (x : Float) (t : fits binary64 x ≡ true) where
         | too-low not-low none ↦ absurd (true≢false (sym low ∙ not-low))
       ]
 
-  pub held-low : lt (bound true) (scaled x) ≡ false → pos 0 ≡ partsHeld x
-  held-low not-low =
+  -- one of the two tests fails
+  not-held : (Between (scaled x) (partsHeld x) → ⊥) → pos 0 ≡ partsHeld x
+  not-held outside =
       elim (scaled-any x (subst T (sym t) tt)) [
-        | held between ↦ absurd (true≢false (sym (between .low) ∙ not-low))
+        | held between ↦ absurd (outside between)
         | too-high not-high none ↦ sym none
-        | too-low too none ↦ sym none
-      ]
-
-  pub held-high : lt (scaled x) (bound false) ≡ false → pos 0 ≡ partsHeld x
-  held-high not-high =
-      elim (scaled-any x (subst T (sym t) tt)) [
-        | held between ↦ absurd (true≢false (sym (between .high) ∙ not-high))
-        | too-high too none ↦ sym none
         | too-low not-low none ↦ sym none
       ]
+
+  pub held-low : lt (bound true) (scaled x) ≡ false → pos 0 ≡ partsHeld x
+  held-low not-low = not-held (λ between. true≢false (sym (between .low) ∙ not-low))
+
+  pub held-high : lt (scaled x) (bound false) ≡ false → pos 0 ≡ partsHeld x
+  held-high not-high = not-held (λ between. true≢false (sym (between .high) ∙ not-high))

@@ -11,9 +11,9 @@ use mir.Syntax.{w64}
 use mir.Val.{SFits, toZ, ofZ}
 use mir.Facts.{toZ-ofZ, toZ-pos, toZ-neg}
 use borrow.Author.Tests.{ltb-true}
-use Rattle.guide.specs.Lines.{quotientDown, quotientUp}
-use Rattle.guide.proofs.Integers.{magnitude-negated}
-use Rattle.guide.proofs.Held.{small-fits, Held, held}
+use Rattle.rules.specs.Lines.{quotientDown, quotientUp}
+use Rattle.rules.proofs.Integers.{magnitude-negated}
+use Rattle.rules.proofs.Held.{small-fits, Held, held}
 
 -- ---- the size of a quotient
 

@@ -5,16 +5,17 @@ use Prim.Native.Nat.{ℕ, _*_, _≤_, _^_}
 use lib.Dec.{ltb}
 use lib.IntN.{ℤ, pos, natAbs, _+ℤ_, _-ℤ_, _*ℤ_}
 use lib.Ieee.{Float, lt, ofInt, binary64}
-use Rattle.guide.specs.Choice.{choose, require}
-use Rattle.guide.specs.Kind.{wordMost}
-use Rattle.guide.specs.Limits as limits
-use Rattle.guide.specs.Limits.{controlMultiple, warningMultiple}
-use Rattle.guide.specs.State.{limitsFor}
-use Rattle.guide.specs.Double.{doubleOf, partsIn}
-use Rattle.guide.specs.Sizes.{lineParts}
-use Rattle.guide.specs.Lines.{quotientDown, quotientUp, upperLine, lowerLine, meanLine}
-use Rattle.guide.specs.ChartLines.{ChartLinesAnswer, linesGiven, refused, linesOf, beyondEach, beyondBy}
-use Rattle.guide.specs.ChartLines as guide
+use Rattle.rules.specs.Outcome.{Outcome, given, refused}
+use Rattle.rules.specs.Choice.{choose, require}
+use Rattle.rules.specs.Kind.{wordMost}
+use Rattle.rules.specs.Limits as limits
+use Rattle.rules.specs.Limits.{controlMultiple, warningMultiple}
+use Rattle.rules.specs.State.{limitsFor}
+use Rattle.rules.specs.Double.{doubleOf, partsIn}
+use Rattle.rules.specs.Sizes.{lineParts}
+use Rattle.rules.specs.Lines.{quotientDown, quotientUp, upperLine, lowerLine, meanLine}
+use Rattle.rules.specs.ChartLines.{linesOf, beyondEach, beyondBy}
+use Rattle.rules.specs.ChartLines as rules
 use Rattle.limits.specs.declared.Sums.{Sums}
 use Rattle.limits.specs.Sums.{Bounded}
 use Rattle.chart.specs.declared.Chart.{Chart}
@@ -31,15 +32,15 @@ use Rattle.lines.specs.declared.AgainstAnswer.the-variants as against
 -- ---- what the cases say
 
 -- the three doubles of a kind 1 chart, or the five of another chart
-unfoldable pub linesSay : Lines → guide.Lines
-linesSay (lines.Duplicate mean upperWarning upperControl) = guide.duplicate mean upperWarning upperControl
-linesSay (lines.TwoSided l) = guide.twoSided (l .mean) (l .«lower_warning») (l .«upper_warning») (l .«lower_control») (l .«upper_control»)
+unfoldable pub linesSay : Lines → rules.Lines
+linesSay (lines.Duplicate mean upperWarning upperControl) = rules.duplicate mean upperWarning upperControl
+linesSay (lines.TwoSided l) = rules.twoSided (l .mean) (l .«lower_warning») (l .«upper_warning») (l .«lower_control») (l .«upper_control»)
 
-unfoldable pub linesAnswerSays : LinesAnswer → ChartLinesAnswer
-linesAnswerSays (answer.Done l) = linesGiven (linesSay l)
+unfoldable pub linesAnswerSays : LinesAnswer → Outcome rules.Lines
+linesAnswerSays (answer.Done l) = given (linesSay l)
 linesAnswerSays (answer.Refused n) = refused n
 
-unfoldable pub beyondSays : BeyondEach → guide.BeyondEach
+unfoldable pub beyondSays : BeyondEach → rules.BeyondEach
 beyondSays b =
     record {
       lowerWarning = b .«lower_warning»;
@@ -49,22 +50,18 @@ beyondSays b =
     }
 
 -- whether the word is beyond each limit, or the number of the refusal
-pub data AgainstSaid : Type 0 where
-  compared : guide.BeyondEach → AgainstSaid
-  declined : ℕ → AgainstSaid
-
-unfoldable pub againstSays : AgainstAnswer → AgainstSaid
-againstSays (against.Done b) = compared (beyondSays b)
-againstSays (against.Refused n) = declined n
+unfoldable pub againstSays : AgainstAnswer → Outcome rules.BeyondEach
+againstSays (against.Done b) = given (beyondSays b)
+againstSays (against.Refused n) = refused n
 
 -- ---- what the calls answer: "lines 14"
 
-unfoldable pub answerToLines : Chart → ChartLinesAnswer
-answerToLines c = require (soundChart c) (refused 14) (linesGiven (linesOf (limitsFor (stateOf c))))
+unfoldable pub answerToLines : Chart → Outcome rules.Lines
+answerToLines c = require (soundChart c) (refused 14) (given (linesOf (limitsFor (stateOf c))))
 
 -- whether a word is beyond each line, by the exact limits
-unfoldable pub answerToAgainst : Chart → ℤ → AgainstSaid
-answerToAgainst c w = require (soundChart c) (declined 14) (compared (beyondEach (limitsFor (stateOf c)) w))
+unfoldable pub answerToAgainst : Chart → ℤ → Outcome rules.BeyondEach
+answerToAgainst c w = require (soundChart c) (refused 14) (given (beyondEach (limitsFor (stateOf c)) w))
 
 -- ---- a word against any doubles, as a comparison of doubles. If the double denotes k / 256, it compares 256·w with k (`proofs/Comparing`)
 
@@ -74,7 +71,7 @@ floatAbove x w = lt x (ofInt binary64 w)
 abbrev pub floatBelow : Float → ℤ → Bool
 floatBelow x w = lt (ofInt binary64 w) x
 
-unfoldable pub floatBeyond : guide.Lines → ℤ → guide.BeyondEach
+unfoldable pub floatBeyond : rules.Lines → ℤ → rules.BeyondEach
 floatBeyond lines w = beyondBy floatAbove floatBelow lines w
 
 -- ---- the whole number k of 256ths that a line's double denotes
@@ -83,11 +80,11 @@ floatBeyond lines w = beyondBy floatAbove floatBelow lines w
 unfoldable pub partsHeld : Float → ℤ
 partsHeld x = choose (ltb (natAbs (partsIn x)) (2 ^ 63)) (partsIn x) (pos 0)
 
--- the lines that sums give, up to three times S from the mean, have whole numbers k of at most 2 ^ 34 in size
+-- the lines that sums give, at most as far from the mean as the control limits, have whole numbers k of at most 2 ^ 34 in size
 pub record AreSmallLines (s : limits.Sums) : Type 0 where
   pub of-mean : natAbs (meanLine s) ≤ 2 ^ 34
-  pub of-upper : (m : ℕ) → m ≤ 3 → natAbs (upperLine m s) ≤ 2 ^ 34
-  pub of-lower : (m : ℕ) → m ≤ 3 → natAbs (lowerLine m s) ≤ 2 ^ 34
+  pub of-upper : (m : ℕ) → m ≤ controlMultiple → natAbs (upperLine m s) ≤ 2 ^ 34
+  pub of-lower : (m : ℕ) → m ≤ controlMultiple → natAbs (lowerLine m s) ≤ 2 ^ 34
 
 -- x is the double of k. k is small, so `partsHeld` gives it back
 pub record IsHeldLine (k : ℤ) (x : Float) : Type 0 where
@@ -108,15 +105,15 @@ pub record AreHeldTwoSided (s : limits.Sums) (mean lowerWarning upperWarning low
   pub of-lower-control : IsHeldLine (lowerLine controlMultiple s) lowerControl
   pub of-upper-control : IsHeldLine (upperLine controlMultiple s) upperControl
 
-abbrev pub AreHeldLines : limits.Sums → guide.Lines → Type 0
-AreHeldLines s (guide.duplicate mean upperWarning upperControl) = AreHeldDuplicate s mean upperWarning upperControl
-AreHeldLines s (guide.twoSided mean lowerWarning upperWarning lowerControl upperControl) =
+abbrev pub AreHeldLines : limits.Sums → rules.Lines → Type 0
+AreHeldLines s (rules.duplicate mean upperWarning upperControl) = AreHeldDuplicate s mean upperWarning upperControl
+AreHeldLines s (rules.twoSided mean lowerWarning upperWarning lowerControl upperControl) =
     AreHeldTwoSided s mean lowerWarning upperWarning lowerControl upperControl
 
 -- ---- a line by its deviation d from the mean, in 256ths of an n-th
 
 -- the greatest k for which n·k is at most 256·T + d, and the least k for which n·k is at least 256·T − d. If d is the greatest whole
--- number for which d / n is at most (256·m)·S, these are the guide's lines for the multiple m (`proofs/LineParts`)
+-- number for which d / n is at most (256·m)·S, these are the lines for the multiple m (`proofs/LineParts`)
 unfoldable pub upperLineBy : ℕ → limits.Sums → ℤ
 upperLineBy d s = quotientDown (pos lineParts *ℤ s .t +ℤ pos d) (s .n)
 

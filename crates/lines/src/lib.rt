@@ -12,7 +12,6 @@ mod parts;
 use chart::Chart;
 use limits::CONTROL;
 use limits::Limits;
-use limits::Sums;
 use limits::WARNING;
 use limits::beyond;
 use limits::has_lower;
@@ -25,15 +24,13 @@ ghost use mathlib.Core.Path.{_≡_};
 ghost use mathlib.Core.Bool.{true};
 ghost use Prim.Native.Nat.{_≤_, _^_};
 ghost use lib.IntN.{natAbs};
-ghost use Rattle.guide.specs.Double.{doubleOf};
-ghost use Rattle.guide.specs.Lines as guide;
-ghost use Rattle.guide.specs.State.{limitsFor};
-ghost use Rattle.guide.specs.ChartLines.{linesOf, beyondEach};
-ghost use Rattle.limits.specs.Sums.{sumsSay, limitsSay};
+ghost use Rattle.rules.specs.Double.{doubleOf};
+ghost use Rattle.rules.specs.State.{limitsFor};
+ghost use Rattle.rules.specs.ChartLines.{linesOf, beyondEach};
+ghost use Rattle.limits.specs.Sums.{limitsSay};
 ghost use Rattle.chart.specs.Chart.{stateOf, LimitsFor};
 ghost use Rattle.chart.specs.Soundness.{soundChart};
 ghost use Rattle.lines.specs.Lines.{beyondSays, floatAbove, floatBelow, floatBeyond, partsHeld};
-ghost use Rattle.lines.specs.Lines.{upperLineBy, lowerLineBy};
 ghost use Rattle.lines.specs.Lines.{HasLines, linesSay, linesAnswerSays, againstSays, answerToLines, answerToAgainst};
 
 pub struct TwoSidedLines {
@@ -157,7 +154,7 @@ pub fn beyond_lines(lines: Lines, word: i16) -> BeyondEach
 pub fn parts_in(line: f64) -> i64
     ensures { λ r. ⌜ r ≡ partsHeld line ⌝ }
 {
-    let parts = line * 256.0;
+    let parts = line * (Chart::LINE_PARTS as f64);
     if parts > -9223372036854775808.0 {
         if parts < 9223372036854775808.0 {
             return std::num::truncating_f64_to_i64(parts);
@@ -186,14 +183,14 @@ fn lines_by(l: Limits) -> Lines
     ensures { λ r. ⌜ linesSay r ≡ linesOf (limitsSay l) ⌝ }
 {
     let s = l.sums;
-    let mean = mean_line(s);
+    let mean = line_of(mean_parts(s));
     let warning = deviation_parts(WARNING, s);
     let control = deviation_parts(CONTROL, s);
-    let upper_warning = upper_line(warning, s);
-    let upper_control = upper_line(control, s);
+    let upper_warning = line_of(upper_parts(warning, s));
+    let upper_control = line_of(upper_parts(control, s));
     if has_lower(l.kind) {
-        let lower_warning = lower_line(warning, s);
-        let lower_control = lower_line(control, s);
+        let lower_warning = line_of(lower_parts(warning, s));
+        let lower_control = line_of(lower_parts(control, s));
         return Lines::TwoSided(TwoSidedLines {
             mean,
             lower_warning,
@@ -207,29 +204,6 @@ fn lines_by(l: Limits) -> Lines
         upper_warning,
         upper_control,
     }
-}
-
-fn mean_line(s: Sums) -> f64
-    requires { ⌜ HasLines s ⌝ }
-    ensures { λ r. ⌜ r ≡ doubleOf (guide.meanLine (sumsSay s)) ⌝ }
-{
-    line_of(mean_parts(s))
-}
-
-// The line at the deviation d above the mean.
-fn upper_line(d: u32, s: Sums) -> f64
-    requires { ⌜ HasLines s ⌝ }
-    ensures { λ r. ⌜ r ≡ doubleOf (upperLineBy d (sumsSay s)) ⌝ }
-{
-    line_of(upper_parts(d, s))
-}
-
-// The line at the deviation d below the mean.
-fn lower_line(d: u32, s: Sums) -> f64
-    requires { ⌜ HasLines s ⌝ }
-    ensures { λ r. ⌜ r ≡ doubleOf (lowerLineBy d (sumsSay s)) ⌝ }
-{
-    line_of(lower_parts(d, s))
 }
 
 // k / 256: a double holds k, 256 and their quotient exactly.

@@ -7,16 +7,17 @@ use limits::v_of;
 ghost use mathlib.Core.Path.{_≡_};
 ghost use Prim.Native.Nat.{_*_, _≤_, _<_, _^_};
 ghost use lib.IntN.{pos, natAbs, _*ℤ_};
-ghost use Rattle.guide.specs.Sizes.{lineParts};
-ghost use Rattle.guide.specs.SquareRoot.{squareRoot};
-ghost use Rattle.guide.specs.Lines as guide;
+ghost use Rattle.rules.specs.Sizes.{lineParts};
+ghost use Rattle.rules.specs.Limits.{controlMultiple};
+ghost use Rattle.rules.specs.SquareRoot.{squareRoot};
+ghost use Rattle.rules.specs.Lines as rules;
 ghost use Rattle.limits.specs.Sums.{Bounded, sumsSay};
 ghost use Rattle.lines.specs.Lines.{upperLineBy, lowerLineBy, HasLines, IsParts};
 
 // 256 times the mean, rounded down.
 pub fn mean_parts(s: Sums) -> i64
     requires { ⌜ HasLines s ⌝ }
-    ensures { λ r. ⌜ IsParts (guide.meanLine (sumsSay s)) r ⌝ }
+    ensures { λ r. ⌜ IsParts (rules.meanLine (sumsSay s)) r ⌝ }
 {
     quotient_down(sum_parts(s), s.n)
 }
@@ -39,8 +40,8 @@ pub fn lower_parts(d: u32, s: Sums) -> i64
 
 // The greatest whole number d for which d / n is at most 256·m·S. S itself is never rounded.
 pub fn deviation_parts(m: u8, s: Sums) -> u32
-    requires { ⌜ (m ≤ 3) × HasLines s ⌝ }
-    ensures { λ r. ⌜ r ≡ guide.greatestDeviation (lineParts * m) (sumsSay s) ⌝ }
+    requires { ⌜ (m ≤ controlMultiple) × HasLines s ⌝ }
+    ensures { λ r. ⌜ r ≡ rules.greatestDeviation (lineParts * m) (sumsSay s) ⌝ }
 {
     let n = s.n;
     let multiple = (Chart::LINE_PARTS as u64) * (m as u64);
@@ -76,7 +77,7 @@ fn square_root(q: u64) -> u32
 // z / n rounded up. It is minus (−z / n rounded down).
 fn quotient_up(z: i64, n: u64) -> i64
     requires { ⌜ (natAbs z < 2 ^ 63) × (1 ≤ n) ⌝ }
-    ensures { λ r. ⌜ r ≡ guide.quotientUp z n ⌝ }
+    ensures { λ r. ⌜ r ≡ rules.quotientUp z n ⌝ }
 {
     0 - quotient_down(0 - z, n)
 }
@@ -84,7 +85,7 @@ fn quotient_up(z: i64, n: u64) -> i64
 // z / n rounded down. For a negative z, `!z` is |z| − 1, and `!` of (|z| − 1) / n is z / n rounded down.
 fn quotient_down(z: i64, n: u64) -> i64
     requires { ⌜ 1 ≤ n ⌝ }
-    ensures { λ r. ⌜ r ≡ guide.quotientDown z n ⌝ }
+    ensures { λ r. ⌜ r ≡ rules.quotientDown z n ⌝ }
 {
     if z < 0 {
         let y = !z;

@@ -2,23 +2,23 @@
 -- in the form in which these are read off the source (`Reads.Post`). A call takes the chart that the call before it gave back. The first
 -- chart comes from building (`claim-from-words`) or reading (`claim-from-bytes`), and lines are asked of the last chart. Then the claim
 -- holds for the whole list.
-use mathlib.Core.Path.{_≡_, refl, ap, _∙_}
+use mathlib.Core.Path.{_≡_, refl, sym, ap, _∙_}
 use mathlib.Core.List.{List, [], _∷_}
 use Prim.Native.Nat.{ℕ}
-use native.Mathlib.Omega.{arith}
 use lib.IntN.{ℤ}
 use contract.Lifetimes.{Lfts}
 use denote.Ref.{RefT, now}
-use Rattle.guide.specs.Sizes.{baseWanted, baseLeast}
-use Rattle.guide.specs.State.{State}
-use Rattle.guide.specs.Building.{BuildingAnswer, building}
-use Rattle.guide.specs.Building as build
-use Rattle.guide.specs.Reading.{ReadingAnswer, reading}
-use Rattle.guide.specs.Reading as read
-use Rattle.guide.specs.Lists.{begun, startOfBuilding, startOfReading, wordsStart, bytesStart}
-use Rattle.guide.specs.Machine.{Call, post, reanalysis, correction, renewal, Answer}
-use Rattle.guide.proofs.Floor.{Starts}
-use Rattle.guide.proofs.Lists.{start-of-building, start-of-reading}
+use Rattle.rules.specs.Outcome.{Outcome, given, refused}
+use Rattle.rules.specs.Sizes.{baseWanted, baseLeast}
+use Rattle.rules.specs.State.{State}
+use Rattle.rules.specs.Building.{BuiltState, building}
+use Rattle.rules.specs.ReadForm.{reading}
+use Rattle.rules.specs.ReadForm as read
+use Rattle.rules.specs.Lists.{startOfBuilding, wordsStart, bytesStart}
+use Rattle.rules.specs.Machine.{Call, post, reanalysis, correction, renewal, Answer}
+use Rattle.rules.proofs.Floor.{Starts}
+use Rattle.rules.proofs.Lists.{start-of-building, start-of-reading}
+use Rattle.rules.proofs.Outcome.{same-given, given-not-refused}
 use Rattle.chart.specs.declared.Chart.{Chart}
 use Rattle.chart.specs.declared.Built.{Built}
 use Rattle.chart.specs.declared.Posted.{Posted}
@@ -61,15 +61,14 @@ pub data Chain : Chart → List Call → List Answer → Chart → Type 0 where
       → Called c call next answer → Chain next calls answers last → Chain c (call ∷ calls) (answer ∷ answers) last
 
 -- the chart that goes with an accepted start
-chart-of-building : (a : BuildingAnswer) (s : State) → startOfBuilding a ≡ begun s → chartAfter a ≡ chartOf s
-unfolding startOfBuilding chartAfter
-chart-of-building (build.built t rounds removed) s e = let same : t ≡ s = cc in ap chartOf same
-chart-of-building (build.refused n) s e = let z : _≡_ {A = ℕ} 0 1 = cc in absurd (omega arith)
+chart-of-building : (a : Outcome BuiltState) (s : State) → startOfBuilding a ≡ given s → chartAfter a ≡ chartOf s
+unfolding chartAfter
+chart-of-building (given b) s e = ap chartOf (same-given e)
+chart-of-building (refused n) s e = given-not-refused (sym e)
 
-chart-of-reading : (a : ReadingAnswer) (s : State) → startOfReading a ≡ begun s → chartAfterReading a ≡ chartOf s
-unfolding startOfReading chartAfterReading
-chart-of-reading (read.taken t) s e = let same : t ≡ s = cc in ap chartOf same
-chart-of-reading (read.refused n) s e = let z : _≡_ {A = ℕ} 0 1 = cc in absurd (omega arith)
+chart-of-reading : (a : Outcome State) (s : State) → a ≡ given s → chartAfterReading a ≡ chartOf s
+unfolding chartAfterReading
+chart-of-reading a s e = ap chartAfterReading e
 
 gives : {c next : Chart} {call : Call} {answer : Answer} → Called c call next answer → Gives c call next answer
 gives (posted r p) = p
@@ -103,7 +102,7 @@ module _ (s : State) (start last : Chart) (calls : List Call) (said : List Answe
 -- from words that building accepts: the machine starts from the kind and the words given
 pub claim-from-words : (κs : Lfts 1) (kind : ℕ) (words : RefT (List ℤ)) (b : Built)
     → build-reads.Post κs (kind, (words, tt)) b (kind, (words, tt))
-    → (s : State) → wordsStart kind (now words) ≡ begun s
+    → (s : State) → wordsStart kind (now words) ≡ given s
     → (calls : List Call) (said : List Answer) (last : Chart) → Chain (b .chart) calls said last
     → (lines : LinesAnswer) → lines-reads.Post tt (last, tt) lines (last, tt)
     → Claim baseWanted s calls last said (linesAnswerSays lines)
@@ -114,7 +113,7 @@ claim-from-words κs kind words b builds s e calls said last chain lines asked =
 -- from bytes that reading accepts
 pub claim-from-bytes : (κs : Lfts 1) (bytes : RefT (List ℕ)) (r : ReadChart)
     → read-reads.Post κs (bytes, tt) r (bytes, tt)
-    → (s : State) → bytesStart (now bytes) ≡ begun s
+    → (s : State) → bytesStart (now bytes) ≡ given s
     → (calls : List Call) (said : List Answer) (last : Chart) → Chain (r .chart) calls said last
     → (lines : LinesAnswer) → lines-reads.Post tt (last, tt) lines (last, tt)
     → Claim baseLeast s calls last said (linesAnswerSays lines)

@@ -6,14 +6,15 @@ use mathlib.Core.List.{List}
 use Prim.Native.Nat.{ℕ, _≤_}
 use native.Mathlib.Omega.{arith}
 use lib.ListN.{length}
-use Rattle.guide.specs.Sizes.{baseLeast}
-use Rattle.guide.specs.State.{State, limitsFor}
-use Rattle.guide.specs.Limits.{limitsOf, sumsOf}
-use Rattle.guide.specs.Machine.{Call, Answer, after, answers}
-use Rattle.guide.specs.ChartLines.{ChartLinesAnswer, linesGiven, linesOf, AreLineDoubles}
-use Rattle.guide.proofs.Limits.{v-natural}
-use Rattle.guide.proofs.Floor.{Starts, renewed-fifteen}
-use Rattle.guide.proofs.Lines.{line-doubles}
+use Rattle.rules.specs.Outcome.{Outcome, given}
+use Rattle.rules.specs.Sizes.{baseLeast}
+use Rattle.rules.specs.State.{State, limitsFor}
+use Rattle.rules.specs.Limits.{limitsOf, sumsOf}
+use Rattle.rules.specs.Machine.{Call, Answer, after, answers}
+use Rattle.rules.specs.ChartLines.{Lines, linesOf, AreLineDoubles}
+use Rattle.rules.proofs.Limits.{v-natural}
+use Rattle.rules.proofs.Floor.{Starts, renewed-fifteen}
+use Rattle.rules.proofs.Lines.{line-doubles}
 use Rattle.chart.specs.declared.Chart.{Chart}
 use Rattle.chart.specs.Chart.{stateOf, chartOf}
 use Rattle.chart.specs.Soundness.{soundChart}
@@ -28,7 +29,7 @@ doubles-of-state : (s : State) → baseLeast ≤ length (s .base) → AreLineDou
 unfolding limitsFor limitsOf sumsOf
 doubles-of-state s ten = line-doubles (limitsOf (s .kind) (s .base)) (omega arith) (v-natural (s .base))
 
-module _ (s : State) (calls : List Call) (chart : Chart) (said : List Answer) (lines : ChartLinesAnswer)
+module _ (s : State) (calls : List Call) (chart : Chart) (said : List Answer) (lines : Outcome Lines)
     (floor : ℕ) (h : Starts floor s) (same : chart ≡ chartAfterCalls (chartOf s) calls) (says : said ≡ answersTo (chartOf s) calls)
     (asked : lines ≡ answerToLines chart) where
   last-chart : chart ≡ chartOf (after s calls)
@@ -40,7 +41,7 @@ module _ (s : State) (calls : List Call) (chart : Chart) (said : List Answer) (l
   last-sound : soundChart chart ≡ true
   last-sound = ap soundChart same ∙ sound-runs s calls (h .is-sound) .stays-sound
 
-  lines-answered : lines ≡ linesGiven (linesOf (limitsFor (after s calls)))
+  lines-answered : lines ≡ given (linesOf (limitsFor (after s calls)))
   unfolding answerToLines
   lines-answered = asked ∙ rw (last-sound, last-state)
 

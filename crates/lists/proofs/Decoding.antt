@@ -15,9 +15,9 @@ use mir.Syntax.{w16, w64}
 use mir.Val.{Fits, SFits, toZ, ofZ}
 use mir.Facts.{toZ-ofZ}
 use borrow.Author.Tests.{ltb-true, ltb-false, leb-true, leb-false, le-leb, lt-leb, eqb-true, eqb-false, eq-eqb, ne-eqb}
-use Rattle.guide.specs.Machine.{post, reanalysis, correction, renewal}
-use Rattle.guide.proofs.Booleans.{both, by-test}
-use Rattle.lists.specs.Encoding.{callSize, answerSize, isCallNumber, kindOf, isNumber, callOf, areCalls, callsIn, hasRoom}
+use Rattle.rules.specs.Machine.{post, reanalysis, correction, renewal}
+use Rattle.rules.proofs.Booleans.{both, by-test}
+use Rattle.lists.specs.Encoding.{callSize, answerSize, isCallNumber, kindInCall, isNumber, callOf, areCalls, callsIn, answersFit}
 use Rattle.lists.specs.Runs.{callAt}
 
 -- ---- the call at a place, and those after it
@@ -68,7 +68,7 @@ held-at numbers i fits = toZ-ofZ fits
 -- the five numbers that are read at a place give the call at that place
 pub call-read : (numbers : List ℤ) (at kind : ℕ)
     → SFits w64 (getD numbers at (pos 0)) → SFits w64 (getD numbers (at + 1) (pos 0)) → SFits w64 (getD numbers (at + 2) (pos 0))
-    → SFits w64 (getD numbers (at + 3) (pos 0)) → SFits w64 (getD numbers (at + 4) (pos 0)) → kind ≡ kindOf (heldAt numbers (at + 1))
+    → SFits w64 (getD numbers (at + 3) (pos 0)) → SFits w64 (getD numbers (at + 4) (pos 0)) → kind ≡ kindInCall (heldAt numbers (at + 1))
     → callOf (heldAt numbers at) kind (heldAt numbers (at + 2)) (heldAt numbers (at + 3)) (heldAt numbers (at + 4)) ≡ callAt numbers at
 unfolding callAt
 call-read numbers at kind f g h i j e =
@@ -124,8 +124,8 @@ count-is (number ∷ kind ∷ a ∷ b ∷ []) t = absurd (false≢true t)
 
 -- a buffer has room for the answers exactly if it has at least as many groups of three as the list has groups of five
 pub room-is : (calls room : List ℤ) → areCalls calls ≡ true
-    → hasRoom calls room ≡ leb (length calls / callSize) (length room / answerSize)
-unfolding hasRoom
+    → answersFit calls room ≡ leb (length calls / callSize) (length room / answerSize)
+unfolding answersFit
 room-is calls room t =
     let n = count-is calls t in
     by-test (leb (length calls / callSize) (length room / answerSize))
@@ -138,23 +138,23 @@ room-is calls room t =
 
 -- ---- a number as a kind
 
-pub kind-below : (z : ℤ) → ltZ z (pos 0) ≡ true → 0 ≡ kindOf z
-unfolding kindOf
+pub kind-below : (z : ℤ) → ltZ z (pos 0) ≡ true → 0 ≡ kindInCall z
+unfolding kindInCall
 kind-below (pos n) h = absurd (omega (arith, ltb-true n 0 h))
 kind-below (negsuc n) h = refl
 
-pub kind-above : (z : ℤ) → ltZ (pos 65535) z ≡ true → 0 ≡ kindOf z
-unfolding kindOf
+pub kind-above : (z : ℤ) → ltZ (pos 65535) z ≡ true → 0 ≡ kindInCall z
+unfolding kindInCall
 kind-above (pos n) h = rw (lt-leb n 65535 (ltb-true 65535 n h))
 kind-above (negsuc n) h = refl
 
 -- a number in 0..65535 can be cast to sixteen bits, and keeps its value
 pub record IsKindNumber (z : ℤ) : Type 0 where
   pub casts : T (nonNeg z) × Fits w16 (natAbs z)
-  pub same : natAbs z ≡ kindOf z
+  pub same : natAbs z ≡ kindInCall z
 
 pub kind-within : (z : ℤ) → ltZ z (pos 0) ≡ false → ltZ (pos 65535) z ≡ false → IsKindNumber z
-unfolding kindOf
+unfolding kindInCall
 kind-within (pos n) low high =
     let small = ltb-false 65535 n high in
     record { casts = (tt, record { fits = omega arith }); same = rw (le-leb n 65535 small) }

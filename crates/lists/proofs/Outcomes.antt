@@ -8,27 +8,28 @@ use native.Mathlib.Omega.{arith}
 use lib.ListN.{length}
 use lib.IntN.{ℤ}
 use borrow.Author.Tests.{le-leb, lt-leb}
-use Rattle.guide.specs.Choice.{require}
-use Rattle.guide.specs.Kind.{isKind}
-use Rattle.guide.specs.State.{State}
-use Rattle.guide.specs.Lists.{begun, declined}
-use Rattle.guide.specs.Lists as guide
-use Rattle.guide.proofs.Booleans.{by-test}
-use Rattle.guide.proofs.Soundness.{sound-facts}
-use Rattle.guide.proofs.Floor.{Starts}
+use Rattle.rules.specs.Outcome.{Outcome, given, refused}
+use Rattle.rules.specs.Choice.{require}
+use Rattle.rules.specs.Kind.{isKind}
+use Rattle.rules.specs.State.{State}
+use Rattle.rules.specs.Lists as rules
+use Rattle.rules.proofs.Booleans.{by-test}
+use Rattle.rules.proofs.Soundness.{sound-facts}
+use Rattle.rules.proofs.Floor.{Starts}
 use Rattle.chart.specs.declared.Chart.{Chart}
 use Rattle.chart.specs.Chart.{stateOf, chartOf, freshChart, zeroChart}
 use Rattle.chart.specs.Soundness.{soundChart}
 use Rattle.chart.specs.Calls.{answersTo}
 use Rattle.chart.proofs.SoundCharts.{sound-chart-facts}
+use Rattle.store.specs.declared.held.Held.{Held}
+use Rattle.store.specs.HeldChart.{chartOfStart, numberOfStart, IsHeld}
 use Rattle.lines.specs.declared.LinesAnswer.{LinesAnswer}
 use Rattle.lines.specs.Lines.{linesAnswerSays, answerToLines}
 use Rattle.lists.specs.declared.Run.{Run}
-use Rattle.lists.specs.declared.Start.{Start}
 use Rattle.lists.specs.declared.RunAnswer.{RunAnswer}
-use Rattle.lists.specs.Encoding.{callSize, answerSize, areCalls, callsIn, hasRoom}
-use Rattle.lists.specs.Runs.{Outcome, declines, startRefused, notCalls, noRoom, runSays, outcomeOf, machineStart, Ran}
-use Rattle.lists.specs.Runs.{RunGives, RunsList, IsStart}
+use Rattle.lists.specs.Encoding.{callSize, answerSize, areCalls, callsIn, answersFit}
+use Rattle.lists.specs.Runs.{ListOutcome, declines, startRefused, notCalls, noRoom, runSays, outcomeOf, machineStart, Ran}
+use Rattle.lists.specs.Runs.{RunGives, RunsList}
 use Rattle.lists.specs.Runs.{NothingRun, RanOn, startOn, RunGivesOn, RunsFrom}
 use Rattle.lists.proofs.Decoding.{room-is}
 use Rattle.lists.proofs.Claims.{claim-of-run}
@@ -55,10 +56,10 @@ start-refused c zero h = absurd (h refl)
 start-refused c (suc n) h = refl
 
 pub fits-room : (calls room : List ℤ) → areCalls calls ≡ true → length calls / callSize ≤ length room / answerSize
-    → hasRoom calls room ≡ true
+    → answersFit calls room ≡ true
 fits-room calls room listed enough = room-is calls room listed ∙ le-leb (length calls / callSize) (length room / answerSize) enough
 
-module _ (p : Start) (calls room out : List ℤ) (r : Run) where
+module _ (p : Held) (calls room out : List ℤ) (r : Run) where
   pub without-calls : areCalls calls ≡ false → NothingRun notCalls r → out ≡ room → RunsFrom p calls room out r
   unfolding outcomeOf
   without-calls h nothing same = rw h (record { nothing = nothing; buffer = same })
@@ -68,17 +69,18 @@ module _ (p : Start) (calls room out : List ℤ) (r : Run) where
         → RunsFrom p calls room out r
     unfolding outcomeOf
     without-room h nothing same =
-        let none : hasRoom calls room ≡ false = room-is calls room listed ∙ lt-leb (length calls / callSize) (length room / answerSize) h in
+        let none : answersFit calls room ≡ false =
+        room-is calls room listed ∙ lt-leb (length calls / callSize) (length room / answerSize) h in
         rw (listed, none) (record { nothing = nothing; buffer = same })
 
     module _ (enough : length calls / callSize ≤ length room / answerSize) where
-      pub without-start : (p .refusal ≡ 0 → ⊥) → NothingRun (startRefused (p .refusal)) r → out ≡ room → RunsFrom p calls room out r
+      pub without-start : (p .number ≡ 0 → ⊥) → NothingRun (startRefused (p .number)) r → out ≡ room → RunsFrom p calls room out r
       unfolding outcomeOf
       without-start h nothing same =
-          rw (listed, fits-room calls room listed enough, start-refused (p .chart) (p .refusal) h)
+          rw (listed, fits-room calls room listed enough, start-refused (p .chart) (p .number) h)
           (record { nothing = nothing; buffer = same })
 
-      pub with-all : p .refusal ≡ 0 → RanOn (p .chart) calls room out r → RunsFrom p calls room out r
+      pub with-all : p .number ≡ 0 → RanOn (p .chart) calls room out r → RunsFrom p calls room out r
       unfolding outcomeOf
       with-all h ran = rw (listed, fits-room calls room listed enough, h) ran
 
@@ -86,7 +88,7 @@ module _ (p : Start) (calls room out : List ℤ) (r : Run) where
 
 module _ (calls room out : List ℤ) (r : Run) (floor : ℕ) where
   -- a list that is refused because of its numbers or the buffer is refused in the same way
-  past-the-tests : (listed fits : Bool) (a : Outcome State) (b : Outcome Chart)
+  past-the-tests : (listed fits : Bool) (a : ListOutcome State) (b : ListOutcome Chart)
       → (RunGivesOn b calls room out r → RunGives floor a calls room out r)
       → RunGivesOn (require listed (declines notCalls) (require fits (declines noRoom) b)) calls room out r
       → RunGives floor (require listed (declines notCalls) (require fits (declines noRoom) a)) calls room out r
@@ -104,15 +106,20 @@ module _ (calls room out : List ℤ) (r : Run) (floor : ℕ) where
         buffer = on .buffer;
       }
 
-  from-start : (start : guide.Start) (p : Start) → ((s : State) → start ≡ begun s → Starts floor s) → IsStart start p
-      → RunGivesOn (startOn (p .chart) (p .refusal)) calls room out r → RunGives floor (machineStart start) calls room out r
-  unfolding machineStart
-  from-start (begun s) p h is on = ran-from s (h s refl) (rw (is .refusal, is .chart) at on)
-  from-start (declined zero) p h is on = absurd (omega (arith, is .some))
-  from-start (declined (suc n)) p h is on = rw (is .refusal) at on
+  -- the start is what building or reading gave: a state that keeps the floor, or a refusal whose number is not 0
+  module _ (start : Outcome State) (p : Held) (starts : (s : State) → start ≡ given s → Starts floor s)
+      (some : (n : ℕ) → start ≡ refused n → 1 ≤ n) (is : IsHeld start p) where
+    from-start : (a : Outcome State) → start ≡ a → RunGivesOn (startOn (p .chart) (p .number)) calls room out r
+        → RunGives floor (machineStart a) calls room out r
+    unfolding machineStart chartOfStart numberOfStart
+    from-start (given s) e on =
+        let own = rw e at is in
+        ran-from s (starts s e) (rw (own .number, own .chart) at on)
+    from-start (refused zero) e on = absurd (omega (arith, some zero e))
+    from-start (refused (suc n)) e on = let own = rw e at is in rw (own .number) at on
 
-  pub runs-list : (start : guide.Start) (p : Start) → ((s : State) → start ≡ begun s → Starts floor s) → IsStart start p
-      → RunsFrom p calls room out r → RunsList floor start calls room out r
-  unfolding outcomeOf
-  runs-list start p h is =
-      past-the-tests (areCalls calls) (hasRoom calls room) (machineStart start) (startOn (p .chart) (p .refusal)) (from-start start p h is)
+    pub runs-list : RunsFrom p calls room out r → RunsList floor start calls room out r
+    unfolding outcomeOf
+    runs-list =
+        past-the-tests (areCalls calls) (answersFit calls room) (machineStart start) (startOn (p .chart) (p .number))
+        (from-start start refl)

@@ -4,10 +4,11 @@ use mathlib.Core.Bool.{true}
 use mathlib.Core.List.{List, List·Memᴰ as Among}
 use Prim.Native.Nat.{ℕ, _≤_}
 use lib.ListN.{length}
-use Rattle.guide.specs.Sizes.{baseWanted, baseLeast}
-use Rattle.guide.specs.State.{State, limitsFor}
-use Rattle.guide.specs.Machine.{Call, Answer, renewed, after, answers}
-use Rattle.guide.specs.ChartLines.{ChartLinesAnswer, linesGiven, linesOf, AnswersLineDoubles}
+use Rattle.rules.specs.Outcome.{Outcome, given}
+use Rattle.rules.specs.Sizes.{baseWanted, baseLeast}
+use Rattle.rules.specs.State.{State, limitsFor}
+use Rattle.rules.specs.Machine.{Call, Answer, renewed, after, answers}
+use Rattle.rules.specs.ChartLines.{Lines, linesOf, AnswersLineDoubles}
 use Rattle.chart.specs.declared.Chart.{Chart}
 use Rattle.chart.specs.Chart.{stateOf, chartOf}
 use Rattle.chart.specs.Soundness.{soundChart}
@@ -16,7 +17,7 @@ use Rattle.chart.specs.Soundness.{soundChart}
 -- answered `lines`. "The machine is fed its start and what the calls bring, never the program's chart or answers." `floor` is 15 for a
 -- chart that was built and 10 for a chart that was read: `RunsFromWords` and `RunsFromBytes` say so
 pub record Claim (floor : ℕ) (s : State) (calls : List Call) (chart : Chart) (said : List Answer)
-    (lines : ChartLinesAnswer) : Type 0 where
+    (lines : Outcome Lines) : Type 0 where
   -- chart kind, base, series, status and open verdict are the machine's, and unused places hold 0
   pub same-chart : chart ≡ chartOf (after s calls)
   -- every answer is the machine's
@@ -30,6 +31,6 @@ pub record Claim (floor : ℕ) (s : State) (calls : List Call) (chart : Chart) (
   -- .. and at least fifteen, if a renewal of the list was accepted
   pub fifteen-renewed : (rounds removed : ℕ) → Among (renewed rounds removed) said → baseWanted ≤ length (stateOf chart .base)
   -- lines are answered ..
-  pub answered : lines ≡ linesGiven (linesOf (limitsFor (after s calls)))
+  pub answered : lines ≡ given (linesOf (limitsFor (after s calls)))
   -- .. each line's double is the paper's, less than 1/256 from the exact value. A limit's double judges every word as the exact limit does
   pub doubles : AnswersLineDoubles (limitsFor (after s calls)) lines

@@ -2,12 +2,12 @@
 use mathlib.Core.Bool.{Bool, true, false, _&&_}
 use mathlib.Core.List.{List, [], _∷_, _++_}
 use Prim.Native.Nat.{ℕ, _*_}
-use lib.ListN.{length, drop}
+use lib.ListN.{length}
 use lib.Dec.{leb, eqb}
 use lib.IntN.{ℤ, pos, negsuc}
 use lib.Signed.{leZ}
-use Rattle.guide.specs.Choice.{choose}
-use Rattle.guide.specs.Machine.{Call, post, reanalysis, correction, renewal, Answer, judged, reanalysed, corrected, renewed, refused}
+use Rattle.rules.specs.Choice.{choose}
+use Rattle.rules.specs.Machine.{Call, post, reanalysis, correction, renewal, Answer, judged, reanalysed, corrected, renewed, refused}
 
 abbrev pub callSize : ℕ
 callSize = 5
@@ -22,9 +22,9 @@ unfoldable pub isCallNumber : ℤ → Bool
 isCallNumber z = leZ (pos 1) z && leZ z (pos 4)
 
 -- a number in 0..65535 is itself the kind. Any other number is not a chart's kind. It becomes 0, which is not one either
-unfoldable pub kindOf : ℤ → ℕ
-kindOf (pos n) = choose (leb n 65535) n 0
-kindOf (negsuc n) = 0
+unfoldable pub kindInCall : ℤ → ℕ
+kindInCall (pos n) = choose (leb n 65535) n 0
+kindInCall (negsuc n) = 0
 
 unfoldable pub isNumber : ℕ → ℤ → Bool
 isNumber n (pos k) = eqb k n
@@ -51,7 +51,7 @@ areCalls (number ∷ kind ∷ a ∷ b ∷ []) = false
 -- the calls that the numbers stand for
 unfoldable pub callsIn : List ℤ → List Call
 callsIn [] = []
-callsIn (number ∷ kind ∷ a ∷ b ∷ c ∷ rest) = callOf number (kindOf kind) a b c ∷ callsIn rest
+callsIn (number ∷ kind ∷ a ∷ b ∷ c ∷ rest) = callOf number (kindInCall kind) a b c ∷ callsIn rest
 callsIn (number ∷ []) = []
 callsIn (number ∷ kind ∷ []) = []
 callsIn (number ∷ kind ∷ a ∷ []) = []
@@ -75,9 +75,5 @@ allNumbersOf [] = []
 allNumbersOf (answer ∷ answers) = numbersOf answer ++ allNumbersOf answers
 
 -- the buffer has room for the answers of all calls
-unfoldable pub hasRoom : List ℤ → List ℤ → Bool
-hasRoom calls buffer = leb (answerSize * length (callsIn calls)) (length buffer)
-
--- the buffer with the answers at its front. The numbers after them do not change
-unfoldable pub withAnswers : List Answer → List ℤ → List ℤ
-withAnswers said buffer = allNumbersOf said ++ drop (length (allNumbersOf said)) buffer
+unfoldable pub answersFit : List ℤ → List ℤ → Bool
+answersFit calls buffer = leb (answerSize * length (callsIn calls)) (length buffer)

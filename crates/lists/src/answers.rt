@@ -6,8 +6,8 @@ use chart::RenewalAnswer;
 ghost use mathlib.Core.Path.{_≡_};
 ghost use Prim.Native.Nat.{_+_, _≤_};
 ghost use lib.ListN.{length};
-ghost use lib.Seq.{sets};
-ghost use Rattle.guide.specs.Machine.{refused};
+ghost use Rattle.rules.specs.Buffer.{overwritten};
+ghost use Rattle.rules.specs.Machine.{refused};
 ghost use Rattle.chart.specs.Calls.{postSays, reanalysisSays, correctionSays, renewalSays};
 ghost use Rattle.lists.specs.Encoding.{answerSize, numbersOf};
 ghost use Rattle.lists.specs.Runs.{saidNumbers, Counted};
@@ -84,7 +84,7 @@ pub fn said_by_renewal(answer: RenewalAnswer) -> Said
 // Puts the three numbers into the buffer from a place on.
 pub fn put_answer(answers: &mut [i64], place: usize, said: Said)
     requires { ⌜ place + answerSize ≤ length (now answers) ⌝ }
-    ensures { λ _. ⌜ now (answers .exit) ≡ sets (now (answers .entry)) place (saidNumbers said) ⌝ }
+    ensures { λ _. ⌜ now (answers .exit) ≡ overwritten (now (answers .entry)) place (saidNumbers said) ⌝ }
 {
     let number = said.number;
     let first = said.first;

@@ -9,7 +9,7 @@ use chart::Chart;
 ghost use mathlib.Core.Path.{_≡_};
 ghost use Prim.Native.Nat.{_+_, _≤_};
 ghost use lib.ListN.{length};
-ghost use Rattle.lists.specs.Encoding.{isCallNumber, areCalls, kindOf, callOf, callSize, answerSize};
+ghost use Rattle.lists.specs.Encoding.{isCallNumber, areCalls, kindInCall, callOf, callSize, answerSize};
 ghost use Rattle.lists.specs.Runs.{IsCalled, IsCalledAt};
 
 // How many numbers a call has.
@@ -47,7 +47,7 @@ pub fn call_at(chart: Chart, calls: &[i64], at: usize, answers: &mut [i64], plac
     ensures { λ r. ⌜ IsCalledAt chart (now (calls .entry)) at (now (answers .entry)) place (now (answers .exit)) r ⌝ }
 {
     let number = calls[at];
-    let kind = kind_of(calls[at + 1]);
+    let kind = kind_in_call(calls[at + 1]);
     let a = calls[at + 2];
     let b = calls[at + 3];
     let c = calls[at + 4];
@@ -58,8 +58,8 @@ pub fn call_at(chart: Chart, calls: &[i64], at: usize, answers: &mut [i64], plac
 }
 
 // A number in 0..65535 is itself the kind. Any other number is not a chart's kind. It becomes 0, which is not one either.
-fn kind_of(number: i64) -> u16
-    ensures { λ r. ⌜ r ≡ kindOf number ⌝ }
+fn kind_in_call(number: i64) -> u16
+    ensures { λ r. ⌜ r ≡ kindInCall number ⌝ }
 {
     if number < 0 {
         return 0;

@@ -20,13 +20,14 @@ use chart::Chart;
 use chart::zero_chart;
 use lines::LinesAnswer;
 use lines::lines_of;
-use store::ReadAnswer;
-use store::read;
+use store::held::Held;
+use store::held::held_in;
 ghost use mathlib.Core.Path.{_≡_};
 ghost use mathlib.Core.Bool.{true};
-ghost use Rattle.guide.specs.Lists.{wordsStart, bytesStart};
-ghost use Rattle.lists.specs.Encoding.{areCalls, hasRoom};
-ghost use Rattle.lists.specs.Runs.{RunsFromWords, RunsFromBytes, IsStart, RunsFrom, RunsCalls, NothingRun, runSays};
+ghost use Rattle.rules.specs.Lists.{wordsStart};
+ghost use Rattle.store.specs.HeldChart.{IsHeld};
+ghost use Rattle.lists.specs.Encoding.{areCalls, answersFit};
+ghost use Rattle.lists.specs.Runs.{RunsFromWords, RunsFromBytes, RunsFrom, RunsCalls, NothingRun, runSays};
 
 pub enum RunAnswer {
     // The list was run, and its answers stand in the buffer.
@@ -46,58 +47,39 @@ pub struct Run {
     pub lines: LinesAnswer,
 }
 
-// What building or reading gave: a chart, and the number of a refusal or 0.
-struct Start {
-    chart: Chart,
-    refusal: u16,
-}
-
 // Builds a chart from words, and runs a list of calls from it.
 pub fn run_from_words(kind: u16, words: &[i16], calls: &[i64], answers: &mut [i64]) -> Run
     ensures { λ r. ⌜ RunsFromWords kind (now (words .entry)) (now (calls .entry)) (now (answers .entry)) (now (answers .exit)) r ⌝ }
 {
-    let start = start_of_words(kind, words);
-    run_from(start, calls, answers)
+    run_from(held_of(kind, words), calls, answers)
 }
 
 // Reads a chart from bytes, and runs a list of calls from it.
 pub fn run_from_bytes(bytes: &[u8], calls: &[i64], answers: &mut [i64]) -> Run
     ensures { λ r. ⌜ RunsFromBytes (now (bytes .entry)) (now (calls .entry)) (now (answers .entry)) (now (answers .exit)) r ⌝ }
 {
-    let start = start_of_bytes(bytes);
-    run_from(start, calls, answers)
+    run_from(held_in(bytes), calls, answers)
 }
 
-fn start_of_words(kind: u16, words: &[i16]) -> Start
-    ensures { λ r. ⌜ IsStart (wordsStart kind (now (words .entry))) r ⌝ }
+// The chart that is built of these words.
+fn held_of(kind: u16, words: &[i16]) -> Held
+    ensures { λ r. ⌜ IsHeld (wordsStart kind (now (words .entry))) r ⌝ }
 {
     let b = Chart::build(kind, words);
     let chart = b.chart;
     let answer = b.answer;
     match answer {
-        BuildAnswer::Done { rounds, removed } => Start { chart, refusal: 0 },
-        BuildAnswer::Refused(n) => Start { chart, refusal: n },
-    }
-}
-
-fn start_of_bytes(bytes: &[u8]) -> Start
-    ensures { λ r. ⌜ IsStart (bytesStart (now (bytes .entry))) r ⌝ }
-{
-    let b = read(bytes);
-    let chart = b.chart;
-    let answer = b.answer;
-    match answer {
-        ReadAnswer::Done => Start { chart, refusal: 0 },
-        ReadAnswer::Refused(n) => Start { chart, refusal: n },
+        BuildAnswer::Done { rounds, removed } => Held { chart, number: 0 },
+        BuildAnswer::Refused(n) => Held { chart, number: n },
     }
 }
 
 // Runs the list, unless it is refused.
-fn run_from(start: Start, calls: &[i64], answers: &mut [i64]) -> Run
+fn run_from(start: Held, calls: &[i64], answers: &mut [i64]) -> Run
     ensures { λ r. ⌜ RunsFrom start (now (calls .entry)) (now (answers .entry)) (now (answers .exit)) r ⌝ }
 {
     let chart = start.chart;
-    let refusal = start.refusal;
+    let refusal = start.number;
     if !are_calls(calls) {
         return not_run(RunAnswer::NotCalls);
     }
@@ -129,7 +111,7 @@ fn not_run(answer: RunAnswer) -> Run
 
 // Makes the calls one after the other, each on the chart that the one before gave back.
 fn run_calls(start: Chart, calls: &[i64], answers: &mut [i64]) -> Chart
-    requires { ⌜ (areCalls (now calls) ≡ true) × (hasRoom (now calls) (now answers) ≡ true) ⌝ }
+    requires { ⌜ (areCalls (now calls) ≡ true) × (answersFit (now calls) (now answers) ≡ true) ⌝ }
     ensures { λ r. ⌜ RunsCalls start (now (calls .entry)) (now (answers .entry)) (now (answers .exit)) r ⌝ }
 {
     let mut chart = start;

@@ -3,50 +3,42 @@
 -- lengths of the form and of the text: `and-counted`.
 use mathlib.Core.Path.{_≡_, refl, sym, ap, _∙_}
 use mathlib.Core.Bool.{Bool, true, false}
-use mathlib.Core.List.{List, [], _++_}
+use mathlib.Core.List.{List, []}
 use Prim.Native.Nat.{ℕ, _≤_}
 use native.Mathlib.Omega.{arith}
-use lib.ListN.{length, take, drop}
+use lib.ListN.{length, take}
 use lib.Seq.{length-take-le}
 use lib.Dec.{eqb, leb, lit≤}
-use Rattle.guide.specs.Choice.{require}
-use Rattle.guide.specs.StoredForm.{storedForm, hasRoom, wrote, writing, bufferAfter}
-use Rattle.guide.specs.StoredForm as form
-use Rattle.guide.proofs.Choice.{choose-ind}
-use Rattle.guide.specs.Reading.{taken, refused, reading}
+use Rattle.rules.specs.Outcome.{given, refused}
+use Rattle.rules.specs.Outcome as rules
+use Rattle.rules.specs.Choice.{require}
+use Rattle.rules.specs.StoredForm.{storedForm, formFits, writing, bufferAfter}
+use Rattle.rules.specs.Buffer.{Placed}
+use Rattle.rules.proofs.Choice.{choose-ind}
+use Rattle.rules.proofs.Buffer.{placed-none, front-fits, front-counted}
+use Rattle.rules.specs.ReadForm.{reading}
+use Rattle.rules.proofs.Booleans.{zero-not-one}
 use Rattle.chart.specs.declared.Chart.{Chart}
 use Rattle.chart.specs.Chart.{stateOf, chartOf}
 use Rattle.chart.specs.Soundness.{soundChart}
-use Rattle.parsing.specs.Bytes.{PutInFront}
 use Rattle.printing.specs.Output.{Puts}
-use Rattle.printing.proofs.Putting.{puts-within, puts-front}
+use Rattle.printing.proofs.Putting.{puts-within, puts-room}
 use Rattle.store.specs.declared.WriteAnswer.the-variants.{Done, Refused}
 use Rattle.store.specs.declared.ReadAnswer.the-variants as read
 use Rattle.store.specs.declared.ReadChart.{ReadChart}
 use Rattle.store.specs.Store.{readSays, chartAfterReading, IsRead}
 use Rattle.store.specs.Store.{writeSays, answerToWrite, bufferAfterWrite, Writes}
-use Rattle.store.proofs.Returning.{written-facts, written-after, written-form}
+use Rattle.store.proofs.Returning.{written-placed, written-facts, written-form}
 use Rattle.commands.specs.declared.Answered.{Answered}
 use Rattle.commands.specs.Command.{lineIn}
-use Rattle.commands.specs.Reply.{chartAfterLine, answerToLine}
+use Rattle.commands.specs.Reply.{answerToLine}
 use Rattle.commands.specs.Answers.{Answers, AnswersInFull}
-use Rattle.commands.proofs.Fronts.{front-fits, front-counted}
 use Rattle.outcomes.specs.declared.Outcome.{Outcome}
 use Rattle.outcomes.specs.declared.Outcome.the-variants as outcome
 use Rattle.outcomes.specs.declared.OnFile.{OnFile}
 use Rattle.outcomes.specs.Naming.{hasCommand}
-use Rattle.outcomes.specs.OnFile.{Held, onChart, fault, noCommand, startRead, startFrom, startOf, faultText, ofForm, notWritten, Ending, ending, keeping, Ends, Counts}
-
--- nothing is put
-none-put : (buffer : List ℕ) → PutInFront [] buffer buffer 0
-none-put buffer = record { buffer = refl; counted = refl }
-
--- if there is room for a text, all of it is put
-in-front : {before after : List ℕ} {size : ℕ} (text : List ℕ) → length text ≤ length before → Puts before 0 text after size
-    → PutInFront text before after size
-in-front {before} text room puts =
-    let front = puts-front text room puts in
-    record { buffer = front .bytes ∙ ap (λ (n : ℕ). text ++ drop n before) (sym (front .place)); counted = front .place }
+use Rattle.outcomes.specs.OnFile.{Held, onChart, fault, noCommand, startRead, startFrom, startOf, faultText, ofForm, notWritten}
+use Rattle.outcomes.specs.OnFile.{Ending, ending, keeping, Ends, IsFault, Counts}
 
 fault-length : (n : ℕ) → length (faultText n) ≤ 200
 unfolding faultText
@@ -57,14 +49,14 @@ fault-length n =
     (λ _. choose-ind short (eqb n 13) _ _ (λ _. lit≤ tt) (λ _. lit≤ tt)))
 
 pub ends-in-fault : (n : ℕ) {buffer out out′ : List ℕ} {r : OnFile}
-    → (r .outcome ≡ outcome.Fault) × ((r .form ≡ 0) × Puts out 0 (faultText n) out′ (r .size))
+    → IsFault n out out′ r
     → Ends (record { outcome = outcome.Fault; form = []; text = faultText n }) buffer buffer out out′ r
 ends-in-fault n {buffer} told =
     record {
-      outcome = told .0;
-      form = rw (told .1 .0) (none-put buffer);
-      text = told .1 .1;
-      whole = λ room. let short = fault-length n in in-front (faultText n) (omega arith) (told .1 .1);
+      outcome = told .outcome;
+      form = rw (told .none) (placed-none buffer 0);
+      text = told .text;
+      whole = λ room. let short = fault-length n in puts-room (faultText n) (omega arith) (told .text);
     }
 
 -- ---- the chart after a command, in a buffer of `room` bytes
@@ -83,16 +75,11 @@ module _ (after : Chart) (held text : List ℕ) (room : ℕ) where
       ≡ record { outcome = ofForm held (storedForm (stateOf after)); form = storedForm (stateOf after); text = text }
   with-room t fits = rw (t, fits)
 
--- what was written
-put-in-front : (c : Chart) (before after : List ℕ) (n : ℕ) → Writes c before after (Done n) → PutInFront (storedForm (stateOf c)) before after n
-put-in-front c before after n w =
-    let size = written-facts c before after n w .1 .1 in
-    record { buffer = written-after c before after n w ∙ rw size; counted = size }
-
 -- why writing was refused: the chart is not sound, or the buffer is too short
-declined-by : (whole room : Bool) (size n : ℕ) → form.refused n ≡ require whole (form.refused 14) (require room (form.refused 15) (wrote size))
+declined-by : (whole room : Bool) (size n : ℕ)
+    → refused n ≡ require whole (refused 14) (require room (refused 15) (given size))
     → (P : Type 0) → (whole ≡ false → n ≡ 14 → P) → (whole ≡ true → room ≡ false → n ≡ 15 → P) → P
-declined-by true true size n e P unsound short = let z : _≡_ {A = ℕ} 0 1 = cc in absurd (omega arith)
+declined-by true true size n e P unsound short = zero-not-one cc
 declined-by true false size n e P unsound short = short refl refl cc
 declined-by false room size n e P unsound short = unsound refl cc
 
@@ -103,39 +90,43 @@ module _ (c : Chart) (held line : List ℕ) {out out′ : List ℕ} (a : Answere
   abbrev answers : Answers c (lineIn line) out out′ a
   answers = all .0
 
+  abbrev in-full : AnswersInFull c (lineIn line) out out′ a
+  in-full = all .1
+
   -- the ending, by the chart that the command answered
   by-chart : (room : ℕ) → ending (onChart c held) line room ≡ keeping (a .chart) held room (answerToLine c (lineIn line))
   by-chart room = rw (← answers .chart)
 
-  pub ends-written : {before after : List ℕ} (n : ℕ) (o : Outcome) → Writes (a .chart) before after (Done n) → o ≡ ofForm held (take n after)
+  pub ends-written : {before after : List ℕ} (n : ℕ) (o : Outcome) → Writes (a .chart) before after (Done n)
+      → o ≡ ofForm held (take n after)
       → Ends (ending (onChart c held) line (length before)) before after out out′ (record { outcome = o; form = n; size = a .size })
-  unfolding hasRoom
+  unfolding formFits
   ends-written {before} {after} n o w decided =
       let text = answerToLine c (lineIn line) in
       let facts = written-facts (a .chart) before after n w in
-      let e = by-chart (length before) ∙ with-room (a .chart) held text (length before) (facts .0) (facts .1 .0) in
+      let e = by-chart (length before) ∙ with-room (a .chart) held text (length before) (facts .sound) (facts .fits) in
       rw e
       (record {
         outcome = decided ∙ ap (ofForm held) (written-form (a .chart) before after n w);
-        form = put-in-front (a .chart) before after n w;
+        form = written-placed (a .chart) before after n w;
         text = answers .text;
-        whole = all .1;
+        whole = in-full;
       })
 
   pub ends-declined : {before after : List ℕ} (n : ℕ) (o : Outcome) → Writes (a .chart) before after (Refused n) → o ≡ notWritten n
       → Ends (ending (onChart c held) line (length before)) before after out out′ (record { outcome = o; form = 0; size = a .size })
-  unfolding writeSays answerToWrite writing hasRoom bufferAfterWrite bufferAfter notWritten
+  unfolding writeSays answerToWrite writing formFits bufferAfterWrite bufferAfter notWritten
   ends-declined {before} {after} n o w decided =
       let text = answerToLine c (lineIn line) in
-      declined-by (soundChart (a .chart)) (hasRoom (stateOf (a .chart)) before) (length (storedForm (stateOf (a .chart)))) n (w .says) _
+      declined-by (soundChart (a .chart)) (formFits (stateOf (a .chart)) before) (length (storedForm (stateOf (a .chart)))) n (w .says) _
       (λ unsound e.
       let same : after ≡ before = rw unsound at (w .buffer) in
       rw (by-chart (length before) ∙ not-sound (a .chart) held text (length before) unsound, same)
-      (record { outcome = decided ∙ rw e; form = none-put before; text = answers .text; whole = all .1 }))
+      (record { outcome = decided ∙ rw e; form = placed-none before 0; text = answers .text; whole = in-full }))
       (λ sound short e.
       let same : after ≡ before = rw (sound, short) at (w .buffer) in
       rw (by-chart (length before) ∙ no-room (a .chart) held text (length before) sound short, same)
-      (record { outcome = decided ∙ rw e; form = none-put before; text = answers .text; whole = all .1 }))
+      (record { outcome = decided ∙ rw e; form = placed-none before 0; text = answers .text; whole = in-full }))
 
 -- ---- what a command starts from
 
@@ -143,7 +134,7 @@ module _ (held : List ℕ) (r : ReadChart) (is : IsRead (reading held) r) where
   pub start-taken : r .answer ≡ read.Done → startRead held (reading held) ≡ onChart (r .chart) held
   unfolding readSays chartAfterReading
   start-taken e =
-      let says : taken (stateOf (r .chart)) ≡ reading held = rw e at (is .says) in
+      let says : given (stateOf (r .chart)) ≡ reading held = rw e at (is .says) in
       let chart : r .chart ≡ chartOf (stateOf (r .chart)) = is .chart ∙ ap chartAfterReading (sym says) in
       ap (startRead held) (sym says) ∙ ap (λ (c : Chart). onChart c held) (sym chart)
 

@@ -1,7 +1,7 @@
 -- A command on a file loses no chart. The new bytes of a changed file are the stored form of the chart after the command (`kept-form`), and
 -- reading them gives that chart (`kept-read`). A file that does not change holds that form already, if that chart is sound
--- (`nothing-lost`). A command that may not change the chart never changes the file, so it needs no lock (`only-read`). A buffer of 814
--- bytes has room for every form (`room-enough`).
+-- (`nothing-lost`). A command that may not change the chart never changes the file, so it needs no lock (`only-read`). A buffer as
+-- long as the longest form has room for every form (`room-enough`).
 use mathlib.Core.Path.{_≡_, refl, sym, ap, _∙_}
 use mathlib.Core.Bool.{Bool, true, false, false≢true}
 use mathlib.Core.List.{List, []}
@@ -10,13 +10,14 @@ use native.Mathlib.Omega.{arith}
 use borrow.Author.Tests.{le-leb}
 use lib.ListN.{length}
 use lib.Dec.{leb}
-use Rattle.guide.specs.StoredForm.{storedForm}
-use Rattle.guide.specs.State.{State}
-use Rattle.guide.specs.Reading.{ReadingAnswer, taken, refused, reading}
-use Rattle.guide.proofs.Booleans.{by-test}
-use Rattle.guide.proofs.Bytes.{AreBytes}
-use Rattle.guide.proofs.Soundness.{sound-facts}
-use Rattle.guide.proofs.Reading.{length-form, read-stored, stored-read}
+use Rattle.rules.specs.Outcome.{given, refused}
+use Rattle.rules.specs.Outcome as rules
+use Rattle.rules.specs.StoredForm.{storedForm}
+use Rattle.rules.specs.State.{State}
+use Rattle.rules.specs.ReadForm.{reading}
+use Rattle.rules.proofs.Booleans.{by-test}
+use Rattle.rules.proofs.Bytes.{AreBytes}
+use Rattle.rules.proofs.ReadForm.{read-stored, stored-read}
 use Rattle.chart.specs.declared.Chart.{Chart}
 use Rattle.chart.specs.Chart.{stateOf, chartOf}
 use Rattle.chart.specs.Soundness.{soundChart}
@@ -26,10 +27,13 @@ use Rattle.parsing.specs.Bytes.{sameBytes}
 use Rattle.parsing.proofs.Tests.{same-equal, same-itself}
 use Rattle.commands.specs.Command.{lineIn, isBuild}
 use Rattle.commands.specs.Reply.{chartAfterLine}
+use Rattle.store.specs.Store.{formMost}
+use Rattle.store.proofs.Writing.{form-within}
 use Rattle.outcomes.specs.declared.Outcome.{Outcome}
 use Rattle.outcomes.specs.declared.Outcome.the-variants as outcome
 use Rattle.outcomes.specs.Naming.{hasCommand, mayChange}
-use Rattle.outcomes.specs.OnFile.{Held, noFile, bytes, Start, onChart, fault, startRead, startFrom, startOf, ofForm, Ending, keeping, ending, formMost}
+use Rattle.outcomes.specs.OnFile.{Held, noFile, bytes, Start, onChart, fault, startRead, startFrom, startOf}
+use Rattle.outcomes.specs.OnFile.{ofForm, Ending, keeping, ending}
 use Rattle.outcomes.proofs.Named.{only-reads, builds}
 
 -- numbers tell the outcomes apart
@@ -46,7 +50,8 @@ module _ (after : Chart) (held : List ℕ) (room : ℕ) (text : List ℕ) where
   by-cases : (P : Ending → Type 0)
       → (soundChart after ≡ false → P (record { outcome = outcome.Answered; form = []; text = text }))
       → (soundChart after ≡ true → P (record { outcome = outcome.NoRoom; form = []; text = text }))
-      → (soundChart after ≡ true → P (record { outcome = ofForm held (storedForm (stateOf after)); form = storedForm (stateOf after); text = text }))
+      → (soundChart after ≡ true
+      → P (record { outcome = ofForm held (storedForm (stateOf after)); form = storedForm (stateOf after); text = text }))
       → P (keeping after held room text)
   by-cases P unsound short kept =
       by-test (soundChart after)
@@ -64,7 +69,7 @@ module _ (after : Chart) (held : List ℕ) (room : ℕ) (text : List ℕ) where
 
   -- .. which is read as that chart
   pub kept-read : keeping after held room text .outcome ≡ outcome.Changed
-      → reading (keeping after held room text .form) ≡ taken (stateOf after)
+      → reading (keeping after held room text .form) ≡ given (stateOf after)
   kept-read e =
       let kept = kept-form e in
       ap reading (kept .1) ∙ read-stored (stateOf after) (sound-chart-facts after (kept .0) .state)
@@ -84,15 +89,14 @@ module _ (after : Chart) (held : List ℕ) (room : ℕ) (text : List ℕ) where
       (λ t e sound. let z : _≡_ {A = ℕ} 3 0 = ap number e in absurd (omega arith))
       (λ t e sound. same-form e)
 
-  -- a buffer of 814 bytes has room for every form
+  -- a buffer as long as the longest form has room for every form
   pub room-enough : formMost ≤ room → keeping after held room text .outcome ≡ outcome.NoRoom → ⊥
   unfolding ofForm
   room-enough enough =
       by-test (soundChart after)
       (λ t.
       let s = stateOf after in
-      let facts = sound-facts s (sound-chart-facts after t .state) in
-      let fits = le-leb (length (storedForm s)) room (omega (arith, length-form s, facts .base-most, facts .series-most)) in
+      let fits = le-leb (length (storedForm s)) room (omega (arith, form-within s (sound-chart-facts after t .state))) in
       by-test (sameBytes held (storedForm s))
       (λ same e. let z : _≡_ {A = ℕ} 0 3 = ap number (rw (t, fits, same) at e) in omega arith)
       (λ same e. let z : _≡_ {A = ℕ} 1 3 = ap number (rw (t, fits, same) at e) in omega arith))
@@ -106,7 +110,7 @@ HoldsBytes noFile = Unit {0}
 HoldsBytes (bytes held) = AreBytes held
 
 -- a chart that was read has the form that it was read from, so the file does not change
-read-stays : (held : List ℕ) → AreBytes held → (s : State) → reading held ≡ taken s → (room : ℕ) (text : List ℕ)
+read-stays : (held : List ℕ) → AreBytes held → (s : State) → reading held ≡ given s → (room : ℕ) (text : List ℕ)
     → keeping (chartOf s) held room text .outcome ≡ outcome.Changed → ⊥
 unfolding ofForm
 read-stays held are s e room text =
@@ -118,9 +122,9 @@ read-stays held are s e room text =
     let z : _≡_ {A = ℕ} 0 1 = ap number (rw (← same, same-itself held) at changed) in omega arith)
 
 module _ (line : List ℕ) (leaves : mayChange line ≡ false) (room : ℕ) where
-  by-reading : (held : List ℕ) → AreBytes held → (a : ReadingAnswer) → reading held ≡ a
+  by-reading : (held : List ℕ) → AreBytes held → (a : rules.Outcome State) → reading held ≡ a
       → ending (startRead held a) line room .outcome ≡ outcome.Changed → ⊥
-  by-reading held are (taken s) e changed =
+  by-reading held are (given s) e changed =
       read-stays held are s e room _ (rw (only-reads line leaves) at changed)
   by-reading held are (refused n) e changed = let z : _≡_ {A = ℕ} 2 1 = ap number changed in omega arith
 

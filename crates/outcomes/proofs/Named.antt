@@ -1,29 +1,33 @@
 -- Laws of the name in a line. A line without a command is passed over, unless it is too long (`no-command`). A command that may not change
 -- the chart leaves it as it is (`only-reads`). `build` may change it (`builds`). The other laws are about the functions of `names`: about
--- the first field (`no-field`, `a-field`), and about the names in the last arm of a match (`leaves`, `some-name`).
+-- the first field (`no-field`, `a-field`), and about the names in the last arm of a match (`some-name`).
 use mathlib.Core.Path.{_≡_, refl, ap}
 use mathlib.Core.Bool.{true, false, not}
 use mathlib.Core.List.{List, [], _∷_}
-use Prim.Native.Nat.{ℕ, zero, suc, _<_, _≤_}
+use Prim.Native.Nat.{ℕ, _<_, _≤_}
 use native.Mathlib.Omega.{arith}
 use borrow.Author.Tests.{le-leb, not-false}
 use lib.ListN.{length, getD}
 use lib.Dec.{eqb, leb}
 use denote.Enum.Declared.{tagOf}
 use types.Run.{OneOf, miss}
-use Rattle.guide.proofs.Choice.{choose-ind, require-ind}
+use Rattle.rules.proofs.Choice.{choose-ind, require-ind}
 use Rattle.chart.specs.declared.Chart.{Chart}
 use Rattle.parsing.specs.Bytes.{sameBytes}
 use Rattle.parsing.specs.Fields.{fieldsOf, IsFirstField}
 use Rattle.parsing.proofs.Tests.{same-equal}
 use Rattle.printing.specs.Ascii.{ascii}
-use Rattle.replies.specs.Faults.{lineTooLong}
+use Rattle.replies.specs.declared.Fault.the-variants as faults
+use Rattle.commands.specs.declared.faults.Finding.{Finding}
+use Rattle.commands.specs.declared.faults.Finding.the-variants as finding
+use Rattle.commands.specs.declared.names.Change.the-variants as change
 use Rattle.commands.specs.declared.names.Name.{Name}
 use Rattle.commands.specs.declared.names.Name.the-variants as name
 use Rattle.commands.proofs.names.Name.{the-type}
 use Rattle.commands.specs.Command.{Line, passedOver, faulty, lineMost, isComment, firstField, nameIn, faultFor, commandFor}
 use Rattle.commands.specs.Command.{unlessFaulty, namedLine, lineOf, lineIn, isBuild}
-use Rattle.commands.specs.Reply.{chartAfterCommand, chartAfterLine}
+use Rattle.commands.specs.Reply.{chartAfterLine}
+use Rattle.commands.proofs.Replying.{inquiry-leaves}
 use Rattle.commands.proofs.Fields.{none-found, one-found, comment-found}
 use Rattle.outcomes.specs.Naming.{isCommand, hasCommand, nameOf, changes, mayChange, isCommandName}
 
@@ -42,22 +46,14 @@ no-command text e short = rw (le-leb (length text) lineMost short) (none-passed 
 
 -- a command without a fault, by its name, and then one that may have a fault
 command-reads : (n : Name) (fields : List (List ℕ)) (c : Chart) → changes n ≡ false → chartAfterLine c (commandFor n fields) ≡ c
-unfolding commandFor chartAfterCommand
-command-reads name.Word fields c e = refl
-command-reads name.Build fields c e = cc
-command-reads name.Post fields c e = cc
-command-reads name.Reanalyse fields c e = cc
-command-reads name.Correct fields c e = cc
-command-reads name.Renew fields c e = cc
-command-reads name.Lines fields c e = refl
-command-reads name.Write fields c e = refl
-command-reads name.Read fields c e = cc
-command-reads name.Show fields c e = refl
+unfolding commandFor
+command-reads (name.Changes change) fields c e = cc
+command-reads (name.Asks inquiry) fields c e = inquiry-leaves c inquiry fields
 command-reads name.Other fields c e = refl
 
-unless-faulty : (fault : ℕ) (line : Line) (c : Chart) → chartAfterLine c line ≡ c → chartAfterLine c (unlessFaulty fault line) ≡ c
-unless-faulty zero line c e = e
-unless-faulty (suc fault) line c e = refl
+unless-faulty : (found : Finding) (line : Line) (c : Chart) → chartAfterLine c line ≡ c → chartAfterLine c (unlessFaulty found line) ≡ c
+unless-faulty finding.NoFault line c e = e
+unless-faulty (finding.Is fault) line c e = refl
 
 fields-read : (fields : List (List ℕ)) (c : Chart) → changes (nameIn (firstField fields)) ≡ false → chartAfterLine c (lineOf fields) ≡ c
 unfolding lineOf namedLine
@@ -71,11 +67,11 @@ fields-read (first ∷ fields) c e =
 pub only-reads : (text : List ℕ) → mayChange text ≡ false → (c : Chart) → chartAfterLine c (lineIn text) ≡ c
 unfolding mayChange nameOf lineIn
 only-reads text e c =
-    require-ind (λ line. chartAfterLine c line ≡ c) (leb (length text) lineMost) (faulty lineTooLong) (lineOf (fieldsOf text))
+    require-ind (λ line. chartAfterLine c line ≡ c) (leb (length text) lineMost) (faulty faults.LineTooLong) (lineOf (fieldsOf text))
     (λ _. fields-read (fieldsOf text) c e)
     (λ _. refl)
 
-named-build : (word : List ℕ) → sameBytes word (ascii "build") ≡ true → nameIn word ≡ name.Build
+named-build : (word : List ℕ) → sameBytes word (ascii "build") ≡ true → nameIn word ≡ name.Changes change.Build
 unfolding nameIn sameBytes
 named-build word t = rw (same-equal word (ascii "build") t)
 
@@ -97,35 +93,10 @@ module _ {text : List ℕ} {start end : ℕ} (field : IsFirstField text start en
       rw (one-found field some, comment-found field some)
 
 -- the names that the arm `_` of a match covers, by their numbers in the enum
-
-abbrev leaving : List ℕ
-leaving = 0 ∷ 6 ∷ 7 ∷ 9 ∷ 10 ∷ []
-
-pub leaves : (n : Name) → OneOf leaving (tagOf the-type n) → false ≡ changes n
-leaves name.Word keys = refl
-leaves name.Build keys = absurd (miss leaving 1 tt keys)
-leaves name.Post keys = absurd (miss leaving 2 tt keys)
-leaves name.Reanalyse keys = absurd (miss leaving 3 tt keys)
-leaves name.Correct keys = absurd (miss leaving 4 tt keys)
-leaves name.Renew keys = absurd (miss leaving 5 tt keys)
-leaves name.Lines keys = refl
-leaves name.Write keys = refl
-leaves name.Read keys = absurd (miss leaving 8 tt keys)
-leaves name.Show keys = refl
-leaves name.Other keys = refl
-
 abbrev commandNames : List ℕ
-commandNames = 0 ∷ 1 ∷ 2 ∷ 3 ∷ 4 ∷ 5 ∷ 6 ∷ 7 ∷ 8 ∷ 9 ∷ []
+commandNames = 0 ∷ 1 ∷ []
 
 pub some-name : (n : Name) → OneOf commandNames (tagOf the-type n) → true ≡ isCommandName n
-some-name name.Word keys = refl
-some-name name.Build keys = refl
-some-name name.Post keys = refl
-some-name name.Reanalyse keys = refl
-some-name name.Correct keys = refl
-some-name name.Renew keys = refl
-some-name name.Lines keys = refl
-some-name name.Write keys = refl
-some-name name.Read keys = refl
-some-name name.Show keys = refl
-some-name name.Other keys = absurd (miss commandNames 10 tt keys)
+some-name (name.Changes change) keys = refl
+some-name (name.Asks inquiry) keys = refl
+some-name name.Other keys = absurd (miss commandNames 2 tt keys)

@@ -10,24 +10,23 @@ use borrow.Author.Tests.{ltb-true, ltb-false, ne-eqb}
 use lib.ListN.{length}
 use lib.Dec.{eqb, ltb, lit≤}
 use lib.IntN.{ℤ, pos, negsuc}
-use Rattle.guide.specs.Choice.{choose}
-use Rattle.guide.specs.Word.{Formed, wordAlone}
-use Rattle.guide.specs.Word as word
-use Rattle.guide.specs.Building.{BuildingAnswer, building}
-use Rattle.guide.specs.Building as guideBuilding
-use Rattle.guide.specs.Machine.{Call, Answer, judged, reanalysed, corrected, renewed, refused}
-use Rattle.guide.specs.Machine.{step, posting, reanalysing, correcting}
-use Rattle.guide.specs.Machine as machine
-use Rattle.guide.specs.State.{State, limitsFor}
-use Rattle.guide.specs.StoredForm.{storedForm}
-use Rattle.guide.specs.Reading.{ReadingAnswer, reading}
-use Rattle.guide.specs.Reading as guideReading
-use Rattle.guide.specs.ChartLines.{ChartLinesAnswer, duplicate, twoSided}
-use Rattle.guide.specs.ChartLines as chartLines
-use Rattle.guide.proofs.Booleans.{by-test}
-use Rattle.guide.proofs.Choice.{choose-ind}
-use Rattle.guide.proofs.Verdict.{verdict-at-most-four}
-use Rattle.guide.proofs.Machine.{step-ind}
+use Rattle.rules.specs.Outcome.{Outcome, given}
+use Rattle.rules.specs.Outcome as outcome
+use Rattle.rules.specs.Choice.{choose}
+use Rattle.rules.specs.Word.{wordAlone}
+use Rattle.rules.specs.Building.{BuiltState, building}
+use Rattle.rules.specs.Machine.{Call, Answer, judged, reanalysed, corrected, renewed, refused}
+use Rattle.rules.specs.Machine.{step, posting, reanalysing, correcting}
+use Rattle.rules.specs.Machine as machine
+use Rattle.rules.specs.State.{State, limitsFor}
+use Rattle.rules.specs.StoredForm.{storedForm}
+use Rattle.rules.specs.ReadForm.{reading}
+use Rattle.rules.specs.ChartLines.{duplicate, twoSided}
+use Rattle.rules.specs.ChartLines as chartLines
+use Rattle.rules.proofs.Booleans.{by-test}
+use Rattle.rules.proofs.Choice.{choose-ind}
+use Rattle.rules.proofs.Verdict.{verdict-at-most-four}
+use Rattle.rules.proofs.Machine.{step-ind}
 use Rattle.chart.specs.declared.Chart.{Chart}
 use Rattle.chart.specs.Chart.{stateOf}
 use Rattle.chart.specs.Calls.{answerTo}
@@ -40,35 +39,36 @@ use Rattle.parsing.proofs.FrontEnd.{ends-joined, ends-behind, ends-unlike}
 use Rattle.printing.specs.Decimal.{decimal, signedDecimal, digit}
 use Rattle.printing.proofs.Digits.{decimal-small, decimal-more}
 use Rattle.printing.specs.Ascii.{ascii}
+use Rattle.replies.specs.declared.Fault.{Fault}
+use Rattle.replies.specs.declared.Fault.the-variants as faults
 use Rattle.replies.specs.Faults.{faultText}
 use Rattle.replies.specs.Texts.{refusalText, wordText, formedText, buildingText, answerText, linesText, bytesText, readingText, stateText}
 use Rattle.commands.specs.Command.{Command, Line}
 use Rattle.commands.specs.Command as command
 use Rattle.commands.specs.Reply.{replyTo, answerToLine}
-use Rattle.outcomes.specs.Status.{holdsByEnd, holdsBatch, statusOf, statusOfAnswer, statusOfFormed, statusOfBuilding}
-use Rattle.outcomes.specs.Status.{statusOfLines, statusOfReading, statusToCommand, statusTo}
+use Rattle.outcomes.specs.Status.{holdsByEnd, holdsBatch, statusOf, statusOfAnswer, statusOfOutcome}
+use Rattle.outcomes.specs.Status.{statusOfOutcome, statusToCommand, statusTo}
 
 -- ---- errors and refusals, and answers that begin with another name than `word`
 
-pub status-fault : (n : ℕ) → statusOf (faultText n ++ (10 ∷ [])) ≡ 3
-unfolding faultText statusOf begins sameBytes
-status-fault n =
-    let three : List ℕ → Type 0 = λ text. statusOf (text ++ (10 ∷ [])) ≡ 3 in
-    choose-ind three (eqb n 1) _ _ (λ _. refl)
-    (λ _. choose-ind three (eqb n 2) _ _ (λ _. refl)
-    (λ _. choose-ind three (eqb n 3) _ _ (λ _. refl)
-    (λ _. choose-ind three (eqb n 4) _ _ (λ _. refl)
-    (λ _. choose-ind three (eqb n 5) _ _ (λ _. refl)
-    (λ _. choose-ind three (eqb n 6) _ _ (λ _. refl)
-    (λ _. choose-ind three (eqb n 7) _ _ (λ _. refl) (λ _. refl)))))))
+pub status-fault : (f : Fault) → statusOf (faultText f ++ (10 ∷ [])) ≡ 3
+unfolding statusOf begins sameBytes
+status-fault faults.UnknownCommand = refl
+status-fault faults.MissingNumber = refl
+status-fault faults.ExtraNumber = refl
+status-fault faults.NotANumber = refl
+status-fault faults.NumberTooLarge = refl
+status-fault faults.NotAHexDigit = refl
+status-fault faults.OddHexDigits = refl
+status-fault faults.LineTooLong = refl
 
 pub status-refused : (n : ℕ) → statusOf (refusalText n ++ (10 ∷ [])) ≡ 2
 unfolding refusalText statusOf begins sameBytes
 status-refused n = refl
 
-pub status-built : (s : State) (rounds removed : ℕ) → statusOf (buildingText (guideBuilding.built s rounds removed) ++ (10 ∷ [])) ≡ 0
+pub status-built : (b : BuiltState) → statusOf (buildingText (given b) ++ (10 ∷ [])) ≡ 0
 unfolding statusOf holdsBatch begins sameBytes
-status-built s rounds removed = refl
+status-built b = refl
 
 pub status-corrected : statusOf (answerText corrected ++ (10 ∷ [])) ≡ 0
 unfolding statusOf holdsBatch begins sameBytes
@@ -78,11 +78,11 @@ pub status-renewed : (rounds removed : ℕ) → statusOf (answerText (renewed ro
 unfolding statusOf holdsBatch begins sameBytes
 status-renewed rounds removed = refl
 
-pub status-read : (s : State) → statusOf (readingText (guideReading.taken s) ++ (10 ∷ [])) ≡ 0
+pub status-read : (s : State) → statusOf (readingText (given s) ++ (10 ∷ [])) ≡ 0
 unfolding statusOf holdsBatch begins sameBytes
 status-read s = refl
 
-pub status-lines : (lines : chartLines.Lines) → statusOf (linesText (chartLines.linesGiven lines) ++ (10 ∷ [])) ≡ 0
+pub status-lines : (lines : chartLines.Lines) → statusOf (linesText (given lines) ++ (10 ∷ [])) ≡ 0
 unfolding statusOf holdsBatch begins sameBytes
 status-lines (duplicate mean upperWarning upperControl) = refl
 status-lines (twoSided mean lowerWarning upperWarning lowerControl upperControl) = refl
@@ -254,21 +254,21 @@ status-answer (refused n) h = status-refused n
 status-call : (c : Chart) (call : Call) → statusOf (answerText (answerTo c call) ++ (10 ∷ [])) ≡ statusOfAnswer (answerTo c call)
 status-call c call = status-answer (answerTo c call) (answer-within c call)
 
-status-formed : (f : Formed) → statusOf (formedText f ++ (10 ∷ [])) ≡ statusOfFormed f
-status-formed (word.formed w) = status-word w
-status-formed (word.refused n) = status-refused n
+status-formed : (f : Outcome ℤ) → statusOf (formedText f ++ (10 ∷ [])) ≡ statusOfOutcome f
+status-formed (given w) = status-word w
+status-formed (outcome.refused n) = status-refused n
 
-status-building : (a : BuildingAnswer) → statusOf (buildingText a ++ (10 ∷ [])) ≡ statusOfBuilding a
-status-building (guideBuilding.built s rounds removed) = status-built s rounds removed
-status-building (guideBuilding.refused n) = status-refused n
+status-building : (a : Outcome BuiltState) → statusOf (buildingText a ++ (10 ∷ [])) ≡ statusOfOutcome a
+status-building (given b) = status-built b
+status-building (outcome.refused n) = status-refused n
 
-status-chart-lines : (a : ChartLinesAnswer) → statusOf (linesText a ++ (10 ∷ [])) ≡ statusOfLines a
-status-chart-lines (chartLines.linesGiven lines) = status-lines lines
-status-chart-lines (chartLines.refused n) = status-refused n
+status-chart-lines : (a : Outcome chartLines.Lines) → statusOf (linesText a ++ (10 ∷ [])) ≡ statusOfOutcome a
+status-chart-lines (given lines) = status-lines lines
+status-chart-lines (outcome.refused n) = status-refused n
 
-status-reading : (a : ReadingAnswer) → statusOf (readingText a ++ (10 ∷ [])) ≡ statusOfReading a
-status-reading (guideReading.taken s) = status-read s
-status-reading (guideReading.refused n) = status-refused n
+status-reading : (a : Outcome State) → statusOf (readingText a ++ (10 ∷ [])) ≡ statusOfOutcome a
+status-reading (given s) = status-read s
+status-reading (outcome.refused n) = status-refused n
 
 status-written : (c : Chart) → statusOf (replyTo c command.write ++ (10 ∷ [])) ≡ statusToCommand c command.write
 unfolding replyTo statusToCommand

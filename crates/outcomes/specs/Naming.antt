@@ -21,16 +21,8 @@ nameOf line = nameIn (firstField (fieldsOf line))
 
 -- the commands that may change the chart; the others leave it as it is (`only-reads` in `proofs/Named`)
 abbrev pub changes : Name → Bool
-changes name.Build = true
-changes name.Post = true
-changes name.Reanalyse = true
-changes name.Correct = true
-changes name.Renew = true
-changes name.Read = true
-changes name.Word = false
-changes name.Lines = false
-changes name.Write = false
-changes name.Show = false
+changes (name.Changes c) = true
+changes (name.Asks q) = false
 changes name.Other = false
 
 unfoldable pub mayChange : List ℕ → Bool
@@ -38,16 +30,8 @@ mayChange line = changes (nameOf line)
 
 -- a command's name
 abbrev pub isCommandName : Name → Bool
-isCommandName name.Build = true
-isCommandName name.Post = true
-isCommandName name.Reanalyse = true
-isCommandName name.Correct = true
-isCommandName name.Renew = true
-isCommandName name.Read = true
-isCommandName name.Word = true
-isCommandName name.Lines = true
-isCommandName name.Write = true
-isCommandName name.Show = true
+isCommandName (name.Changes c) = true
+isCommandName (name.Asks q) = true
 isCommandName name.Other = false
 
 unfoldable pub isName : List ℕ → Bool

@@ -7,13 +7,17 @@ use mathlib.Core.List.{List, [], _++_}
 use Prim.Native.Nat.{ℕ, _≤_}
 use lib.ListN.{length, take}
 use lib.Dec.{eqb, leb}
-use Rattle.guide.specs.Choice.{require, choose}
-use Rattle.guide.specs.StoredForm.{storedForm}
-use Rattle.guide.specs.Reading.{ReadingAnswer, taken, refused, reading}
+use Rattle.rules.specs.Outcome.{given, refused}
+use Rattle.rules.specs.Outcome as rules
+use Rattle.rules.specs.State.{State}
+use Rattle.rules.specs.Choice.{require, choose}
+use Rattle.rules.specs.Buffer.{Placed}
+use Rattle.rules.specs.StoredForm.{storedForm}
+use Rattle.rules.specs.ReadForm.{reading}
 use Rattle.chart.specs.declared.Chart.{Chart}
 use Rattle.chart.specs.Chart.{stateOf, chartOf, zeroChart}
 use Rattle.chart.specs.Soundness.{soundChart}
-use Rattle.parsing.specs.Bytes.{sameBytes, PutInFront}
+use Rattle.parsing.specs.Bytes.{sameBytes}
 use Rattle.printing.specs.Output.{Puts}
 use Rattle.printing.specs.Ascii.{ascii}
 use Rattle.commands.specs.Command.{lineIn, isBuild}
@@ -47,8 +51,8 @@ noCommand = 1
 abbrev pub noSuchFile : ℕ
 noSuchFile = 2
 
-abbrev pub startRead : List ℕ → ReadingAnswer → Start
-startRead held (taken s) = onChart (chartOf s) held
+abbrev pub startRead : List ℕ → rules.Outcome State → Start
+startRead held (given s) = onChart (chartOf s) held
 startRead held (refused n) = fault n
 
 -- `build` makes the file if there is none. If the file holds no sound chart, every command ends in a fault, also `build`
@@ -101,14 +105,16 @@ ending (fault n) line room = record { outcome = outcome.Fault; form = []; text =
 -- the contract: the outcome, every byte of both buffers, and the lengths of the form and of the text
 pub record Ends (e : Ending) (before after out out′ : List ℕ) (r : OnFile) : Type 0 where
   pub outcome : r .outcome ≡ e .outcome
-  pub form : PutInFront (e .form) before after (r .form)
+  pub form : Placed before 0 (e .form) after (r .form)
   pub text : Puts out 0 (e .text) out′ (r .size)
   -- a buffer that has room for every text holds all of it
-  pub whole : answerMost ≤ length out → PutInFront (e .text) out out′ (r .size)
+  pub whole : answerMost ≤ length out → Placed out 0 (e .text) out′ (r .size)
 
--- room for every stored form
-abbrev pub formMost : ℕ
-formMost = 814
+-- a fault: nothing is written, and the text says what is wrong
+pub record IsFault (n : ℕ) (out out′ : List ℕ) (r : OnFile) : Type 0 where
+  pub outcome : r .outcome ≡ outcome.Fault
+  pub none : r .form ≡ 0
+  pub text : Puts out 0 (faultText n) out′ (r .size)
 
 -- n bytes at the front of a buffer. Stated as the kit's `io` states it: such bytes are then lent without a further proof
 abbrev pub Counts : ℕ → List ℕ → Type 0

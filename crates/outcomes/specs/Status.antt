@@ -4,17 +4,15 @@ use mathlib.Core.Bool.{Bool, _&&_, _||_}
 use mathlib.Core.List.{List, [], _∷_, _++_}
 use Prim.Native.Nat.{ℕ}
 use lib.Dec.{eqb}
-use Rattle.guide.specs.Choice.{require, choose}
-use Rattle.guide.specs.Word.{Formed, wordAlone}
-use Rattle.guide.specs.Word as word
-use Rattle.guide.specs.Building.{BuildingAnswer, building}
-use Rattle.guide.specs.Building as guideBuilding
-use Rattle.guide.specs.Machine.{Answer, judged, reanalysed, corrected, renewed, refused}
-use Rattle.guide.specs.Machine as machine
-use Rattle.guide.specs.Reading.{ReadingAnswer, reading}
-use Rattle.guide.specs.Reading as guideReading
-use Rattle.guide.specs.ChartLines.{ChartLinesAnswer}
-use Rattle.guide.specs.ChartLines as chartLines
+use Rattle.rules.specs.Outcome.{Outcome, given}
+use Rattle.rules.specs.State.{State}
+use Rattle.rules.specs.Outcome as outcome
+use Rattle.rules.specs.Choice.{require, choose}
+use Rattle.rules.specs.Word.{wordAlone}
+use Rattle.rules.specs.Building.{BuiltState, building}
+use Rattle.rules.specs.Machine.{Answer, judged, reanalysed, corrected, renewed, refused}
+use Rattle.rules.specs.Machine as machine
+use Rattle.rules.specs.ReadForm.{reading}
 use Rattle.chart.specs.declared.Chart.{Chart}
 use Rattle.chart.specs.Calls.{answerTo}
 use Rattle.chart.specs.Soundness.{soundChart}
@@ -60,36 +58,25 @@ statusOfAnswer corrected = 0
 statusOfAnswer (renewed rounds removed) = 0
 statusOfAnswer (refused n) = 2
 
-abbrev pub statusOfFormed : Formed → ℕ
-statusOfFormed (word.formed w) = 0
-statusOfFormed (word.refused n) = 2
-
-abbrev pub statusOfBuilding : BuildingAnswer → ℕ
-statusOfBuilding (guideBuilding.built s rounds removed) = 0
-statusOfBuilding (guideBuilding.refused n) = 2
-
-abbrev pub statusOfLines : ChartLinesAnswer → ℕ
-statusOfLines (chartLines.linesGiven lines) = 0
-statusOfLines (chartLines.refused n) = 2
-
-abbrev pub statusOfReading : ReadingAnswer → ℕ
-statusOfReading (guideReading.taken s) = 0
-statusOfReading (guideReading.refused n) = 2
+-- any other command: 0 for an answer, 2 for a refusal
+abbrev pub statusOfOutcome : {A : Type 0} → Outcome A → ℕ
+statusOfOutcome (given x) = 0
+statusOfOutcome (outcome.refused n) = 2
 
 unfoldable pub statusToCommand : Chart → Command → ℕ
-statusToCommand chart (command.word kind a b c) = statusOfFormed (wordAlone kind a b c)
-statusToCommand chart (command.build kind words) = statusOfBuilding (building kind words)
+statusToCommand chart (command.word kind a b c) = statusOfOutcome (wordAlone kind a b c)
+statusToCommand chart (command.build kind words) = statusOfOutcome (building kind words)
 statusToCommand chart (command.post kind a b c) = statusOfAnswer (answerTo chart (machine.post kind a b c))
 statusToCommand chart (command.reanalyse kind a b c) = statusOfAnswer (answerTo chart (machine.reanalysis kind a b c))
 statusToCommand chart command.correct = statusOfAnswer (answerTo chart machine.correction)
 statusToCommand chart command.renew = statusOfAnswer (answerTo chart machine.renewal)
-statusToCommand chart command.lines = statusOfLines (answerToLines chart)
+statusToCommand chart command.lines = statusOfOutcome (answerToLines chart)
 statusToCommand chart command.write = require (soundChart chart) 2 0
-statusToCommand chart (command.read bytes) = statusOfReading (reading bytes)
+statusToCommand chart (command.read bytes) = statusOfOutcome (reading bytes)
 statusToCommand chart command.show = 0
 
 -- a line that is passed over does nothing; a fault is an error
 abbrev pub statusTo : Chart → Line → ℕ
 statusTo chart command.passedOver = 0
-statusTo chart (command.faulty n) = 3
+statusTo chart (command.faulty f) = 3
 statusTo chart (command.asked c) = statusToCommand chart c

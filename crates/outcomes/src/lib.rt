@@ -15,8 +15,8 @@ use store::WriteAnswer;
 ghost use mathlib.Core.Path.{_≡_};
 ghost use lib.ListN.{length};
 ghost use Rattle.printing.specs.Output.{Puts};
-ghost use Rattle.outcomes.specs.declared.Outcome.the-variants as outcome;
-ghost use Rattle.outcomes.specs.OnFile.{bytes, noFile, heldIn, onChart, startFrom, startOf, ending, Ends, Counts, faultText, ofForm, notWritten};
+ghost use Rattle.outcomes.specs.OnFile.{bytes, noFile, heldIn, onChart, startFrom, startOf, ending, Ends, IsFault, Counts};
+ghost use Rattle.outcomes.specs.OnFile.{faultText, ofForm, notWritten};
 
 pub enum Outcome {
     // The command is answered, and the file stays as it is.
@@ -41,8 +41,8 @@ const NO_COMMAND: u16 = 1;
 
 const NO_FILE: u16 = 2;
 
-// One command on the chart in a file. It takes whether there is a file, the file's bytes, and the command's line. Buffers of 814 and of
-// 4,096 bytes have room for every form and every text.
+// One command on the chart in a file. It takes whether there is a file, the file's bytes, and the command's line. Buffers of `FORM_MOST`
+// and of `ANSWER_MOST` bytes have room for every form and every text.
 pub fn on_file(there: bool, held: &[u8], line: &[u8], form: &mut [u8], out: &mut [u8]) -> OnFile
     ensures { λ r. ⌜ Ends (ending (startOf (heldIn there (now (held .entry))) (now (line .entry))) (now (line .entry)) (length (now (form .entry)))) (now (form .entry)) (now (form .exit)) (now (out .entry)) (now (out .exit)) r ⌝ }
     ensures { λ r. ⌜ Counts (r .form) (now (form .exit)) ⌝ }
@@ -129,7 +129,7 @@ fn not_written(number: u16) -> Outcome
 }
 
 fn fault(number: u16, out: &mut [u8]) -> OnFile
-    ensures { λ r. ⌜ (r .outcome ≡ outcome.Fault) × ((r .form ≡ 0) × Puts (now (out .entry)) 0 (faultText number) (now (out .exit)) (r .size)) ⌝ }
+    ensures { λ r. ⌜ IsFault number (now (out .entry)) (now (out .exit)) r ⌝ }
 {
     let size = put_file_fault(out, number);
     OnFile {

@@ -11,13 +11,9 @@ pub fn may_change(line: &[u8]) -> bool
 {
     let name = name_of(line);
     match name {
-        Name::Build => true,
-        Name::Post => true,
-        Name::Reanalyse => true,
-        Name::Correct => true,
-        Name::Renew => true,
-        Name::Read => true,
-        _ => false,
+        Name::Changes(_) => true,
+        Name::Asks(_) => false,
+        Name::Other => false,
     }
 }
 

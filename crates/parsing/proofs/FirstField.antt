@@ -9,7 +9,7 @@ use lib.ListN.{length, take, drop, getD, length-drop, drop-of-length-le}
 use lib.Seq.{getD-drop, drop-drop}
 use borrow.Author.Tests.{lt-ltb, le-ltb}
 use borrow.Author.Count.{below-more}
-use Rattle.guide.proofs.Integers.{by-order}
+use Rattle.rules.proofs.Integers.{by-order}
 use Rattle.parsing.specs.Fields.{isBlank, inFront, fieldsOf, between, IsFirstField, AfterBlanks, AfterField}
 
 -- ---- what a loop over the text has seen

@@ -10,7 +10,7 @@ use lib.ListN.{length, take, drop, length-append, length-take, length-drop}
 use lib.Seq.{drop-append-le, drop-append-add, drop-append-seam}
 use lib.Dec.{ltb}
 use borrow.Author.Tests.{ltb-true, ltb-false}
-use Rattle.guide.proofs.Booleans.{by-test}
+use Rattle.rules.proofs.Booleans.{by-test}
 use Rattle.parsing.specs.Bytes.{sameBytes}
 use Rattle.parsing.specs.Text.{begins, ends, mark, withoutMark, IsWithoutMark}
 use Rattle.parsing.proofs.Tests.{same-lengths, same-equal, same-itself}

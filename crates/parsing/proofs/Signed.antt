@@ -1,7 +1,7 @@
 -- Numbers with a sign: what the program makes of a sign and a natural number (`too-large` to `negative`), how it reads the first byte of a
--- field (`no-byte`, `minus-sign`, `no-sign`), and what a number stands for as a kind and as a word.
-use mathlib.Core.Path.{_≡_, refl, sym, ap}
-use mathlib.Core.Bool.{Bool, true, false, not, false≢true}
+-- field (`no-byte`, `minus-sign`, `no-sign`), and numbers of low..high (`IsWithin`).
+use mathlib.Core.Path.{_≡_, refl, ap}
+use mathlib.Core.Bool.{Bool, true, false, _&&_, not, false≢true}
 use mathlib.Core.List.{List, [], _∷_}
 use mathlib.Core.Logic.{⊎-elim}
 use Prim.Native.Nat.{ℕ, zero, suc, _-_, _<_, _≤_, _^_}
@@ -10,18 +10,20 @@ use lib.ListN.{length, take, drop, getD}
 use lib.Seq.{take-all}
 use lib.Dec.{T}
 use lib.IntN.{ℤ, pos, negsuc, natAbs}
-use lib.Signed.{ltZ, nonNeg, mag}
+use lib.Signed.{leZ, nonNeg, mag}
 use denote.Enum.Declared.{tagOf}
 use types.Run.{OneOf}
 use mir.Syntax.{w16, w64}
 use mir.Val.{Fits, SFits, toZ, ofZ}
 use mir.Facts.{toZ-ofZ, toZ-neg}
-use borrow.Author.Tests.{ltb-true, ltb-false, le-leb, lt-leb, lt-ltb, le-ltb, eq-eqb, ne-eqb, not-true, not-false}
+use borrow.Author.Tests.{leb-true, le-leb, lt-leb, lt-ltb, le-ltb, eq-eqb, ne-eqb, not-true, not-false}
+use Rattle.rules.proofs.Booleans.{both}
+use Rattle.rules.proofs.Choice.{require-ind}
 use Rattle.parsing.specs.declared.numbers.Number.{Number}
 use Rattle.parsing.specs.declared.numbers.Number.the-variants as number
 use Rattle.parsing.proofs.numbers.Number.{the-type}
-use Rattle.parsing.specs.Number.{FieldNumber, noNumber, beyond, whole, signedValue, digitsNumber, numberIn, numberSays}
-use Rattle.parsing.specs.Number.{kindOf, fitsWord, wordOf}
+use Rattle.parsing.specs.Number.{FieldNumber, noNumber, beyond, whole, signedValue, digitsNumber, numberInField, numberSays}
+use Rattle.parsing.specs.Number.{numberWithin}
 
 -- ---- a natural number and its sign
 
@@ -48,24 +50,24 @@ negative sign (suc n) t h some =
 
 -- ---- the first byte of a field
 
-pub no-byte : (text : List ℕ) → length text ≡ 0 → noNumber ≡ numberIn text
-unfolding numberIn
+pub no-byte : (text : List ℕ) → length text ≡ 0 → noNumber ≡ numberInField text
+unfolding numberInField
 no-byte [] e = refl
 no-byte (b ∷ text) e = absurd (omega arith)
 
 -- the part of the text after a minus sign
 pub minus-sign : (text : List ℕ) → (length text ≡ 0 → ⊥) → getD text 0 0 ≡ 45
-    → numberIn text ≡ digitsNumber true (take (length text - 1) (drop 1 text))
-unfolding numberIn
+    → numberInField text ≡ digitsNumber true (take (length text - 1) (drop 1 text))
+unfolding numberInField
 minus-sign [] some e = absurd (some refl)
 minus-sign (b ∷ text) some e = rw (eq-eqb b 45 e, take-all (length (b ∷ text) - 1) text (omega arith))
 
-pub no-sign : (text : List ℕ) → (length text ≡ 0 → ⊥) → (getD text 0 0 ≡ 45 → ⊥) → numberIn text ≡ digitsNumber false text
-unfolding numberIn
+pub no-sign : (text : List ℕ) → (length text ≡ 0 → ⊥) → (getD text 0 0 ≡ 45 → ⊥) → numberInField text ≡ digitsNumber false text
+unfolding numberInField
 no-sign [] some ne = absurd (some refl)
 no-sign (b ∷ text) some ne = rw (ne-eqb b 45 ne)
 
--- ---- what a number stands for
+-- ---- the cases of the program's number
 
 -- f has one value for no number and for a number that does not fit signed 64 bits
 pub not-whole : {X : Type 0} (f : FieldNumber → X) (n : Number) → OneOf (0 ∷ 1 ∷ []) (tagOf the-type n) → f noNumber ≡ f beyond
@@ -84,51 +86,28 @@ pub is-whole : {n : Number} {z : ℤ} → n ≡ number.Whole z → mag z < 2 ^ 6
 unfolding numberSays
 is-whole e small = record { says = ap numberSays e; held = toZ-ofZ (record { sfits = small }) }
 
--- as a kind. m is the bound that the program tests
+-- ---- a number of low..high
 
-pub kind-below : (z : ℤ) → ltZ z (pos 0) ≡ true → 0 ≡ kindOf (whole z)
-unfolding kindOf
-kind-below (pos n) h = absurd (omega (arith, ltb-true n 0 h))
-kind-below (negsuc n) h = refl
+pub record IsWithin (low high z : ℤ) : Type 0 where
+  pub least : leZ low z ≡ true
+  pub most : leZ z high ≡ true
 
-pub kind-above : (m : ℕ) (z : ℤ) → ltZ (pos m) z ≡ true → 65535 ≤ m → 0 ≡ kindOf (whole z)
-unfolding kindOf
-kind-above m (pos n) h large = rw (le-ltb n 65536 (omega (arith, ltb-true m n h)))
-kind-above m (negsuc n) h large = refl
+-- what counts as such a number is one, if what stands for all others is
+pub counts-within : (low high otherwise : ℤ) (n : FieldNumber) → IsWithin low high otherwise
+    → IsWithin low high (numberWithin low high otherwise n)
+unfolding numberWithin
+counts-within low high otherwise noNumber is = is
+counts-within low high otherwise beyond is = is
+counts-within low high otherwise (whole z) is =
+    require-ind (IsWithin low high) (leZ low z && leZ z high) otherwise z
+    (λ t. let parts = both (leZ low z) (leZ z high) t in record { least = parts .0; most = parts .1 }) (λ _. is)
 
--- a number in 0..65535 can be cast to sixteen bits, and keeps its value
-pub record IsKind (z : ℤ) : Type 0 where
-  pub casts : T (nonNeg z) × Fits w16 (natAbs z)
-  pub same : natAbs z ≡ kindOf (whole z)
+-- a number in 0..65535 can be cast to sixteen bits
+pub casts-kind : (z : ℤ) → IsWithin (pos 0) (pos 65535) z → T (nonNeg z) × Fits w16 (natAbs z)
+casts-kind (pos n) is = let most = leb-true n 65535 (is .most) in (tt, record { fits = omega arith })
+casts-kind (negsuc n) is = absurd (false≢true (is .least))
 
-pub kind-within : (m : ℕ) (z : ℤ) → ltZ z (pos 0) ≡ false → ltZ (pos m) z ≡ false → m ≤ 65535 → IsKind z
-unfolding kindOf
-kind-within m (pos n) low high small =
-    let most = ltb-false m n high in
-    record { casts = (tt, record { fits = omega arith }); same = rw (lt-ltb n 65536 (omega arith)) }
-kind-within m (negsuc n) low high small = absurd (false≢true (sym low))
-
--- as a word. The program tests −1 − k and m
-
-pub word-below : (m : ℕ) (z : ℤ) → ltZ z (negsuc m) ≡ true → 32767 ≤ m → pos 32767 ≡ wordOf (whole z)
-unfolding wordOf fitsWord
-word-below m (pos n) h large = absurd (false≢true h)
-word-below m (negsuc n) h large = rw (lt-leb n 32767 (omega (arith, ltb-true m n h)))
-
-pub word-above : (m : ℕ) (z : ℤ) → ltZ (pos m) z ≡ true → 32767 ≤ m → pos 32767 ≡ wordOf (whole z)
-unfolding wordOf fitsWord
-word-above m (pos n) h large = rw (lt-leb n 32767 (omega (arith, ltb-true m n h)))
-word-above m (negsuc n) h large = absurd (false≢true h)
-
-pub record IsWord (z : ℤ) : Type 0 where
-  pub fits : SFits w16 z
-  pub same : z ≡ wordOf (whole z)
-
-pub word-within : (k m : ℕ) (z : ℤ) → ltZ z (negsuc k) ≡ false → k ≤ 32767 → ltZ (pos m) z ≡ false → m ≤ 32767 → IsWord z
-unfolding wordOf fitsWord
-word-within k m (pos n) low least high most =
-    let small : n ≤ 32767 = omega (arith, ltb-false m n high) in
-    record { fits = record { sfits = omega arith }; same = rw (le-leb n 32767 small) }
-word-within k m (negsuc n) low least high most =
-    let small : n ≤ 32767 = omega (arith, ltb-false k n low) in
-    record { fits = record { sfits = omega arith }; same = rw (le-leb n 32767 small) }
+-- a number in −32768..32767 fits a word
+pub fits-word : (z : ℤ) → IsWithin (negsuc 32767) (pos 32767) z → SFits w16 z
+fits-word (pos n) is = let most = leb-true n 32767 (is .most) in record { sfits = omega arith }
+fits-word (negsuc n) is = let least = leb-true n 32767 (is .least) in record { sfits = omega arith }

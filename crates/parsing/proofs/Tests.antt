@@ -10,7 +10,7 @@ use lib.ListN.{length, drop, getD, drop-of-length-le}
 use lib.Seq.{drop-cons}
 use lib.Dec.{eqb, leb, ltb}
 use borrow.Author.Tests.{leb-true, eqb-true, eq-eqb, ne-eqb, lt-ltb}
-use Rattle.guide.proofs.Booleans.{both}
+use Rattle.rules.proofs.Booleans.{both, zero-not-one}
 use Rattle.parsing.specs.Bytes.{allBytes, sameBytes}
 use Rattle.parsing.specs.Number.{isDigit, areDigits}
 
@@ -127,8 +127,8 @@ same-lengths (x ∷ a) (y ∷ b) ne = rw (same-lengths a b (λ e. ne (omega arit
 pub same-equal : (a b : List ℕ) → sameBytes a b ≡ true → a ≡ b
 unfolding sameBytes
 same-equal [] [] t = refl
-same-equal [] (y ∷ b) t = let z : _≡_ {A = ℕ} 0 1 = cc in absurd (omega arith)
-same-equal (x ∷ a) [] t = let z : _≡_ {A = ℕ} 0 1 = cc in absurd (omega arith)
+same-equal [] (y ∷ b) t = zero-not-one cc
+same-equal (x ∷ a) [] t = zero-not-one cc
 same-equal (x ∷ a) (y ∷ b) t =
     let parts = both (eqb x y) (sameBytes a b) t in
     let first = eqb-true x y (parts .0) in

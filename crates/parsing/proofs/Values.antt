@@ -9,8 +9,8 @@ use native.Mathlib.Numerals.{add-one}
 use lib.ListN.{length, drop, getD, drop-of-length-le}
 use lib.Seq.{drop-cons}
 use borrow.Author.Tests.{lt-leb, le-ltb}
-use Rattle.guide.proofs.Integers.{by-order}
-use Rattle.parsing.specs.Number.{valueAfter, valueOf, valueMost, signedValue}
+use Rattle.rules.proofs.Integers.{by-order}
+use Rattle.parsing.specs.Number.{beyond, valueAfter, valueOf, valueMost, signedValue}
 
 -- ---- counted no further than the most
 
@@ -58,16 +58,12 @@ module _ {digits : List ℕ} {n i : ℕ} (so-far : Counted digits n i) where
 
 -- ---- with a sign
 
+too-large : (negative : Bool) (v : ℕ) → valueMost ≤ v → signedValue negative v ≡ beyond
+too-large true v h = rw (lt-leb v (2 ^ 63) (omega arith))
+too-large false v h = rw (le-ltb v (2 ^ 63) (omega arith))
+
 pub signed-counted : (negative : Bool) (v : ℕ) → signedValue negative (min v valueMost) ≡ signedValue negative v
-signed-counted true v =
+signed-counted negative v =
     by-order v valueMost
-    (λ large.
-    let most : min v valueMost ≡ valueMost = omega arith in
-    rw (most, lt-leb v (2 ^ 63) (omega arith)))
-    (λ small. let same : min v valueMost ≡ v = omega arith in ap (signedValue true) same)
-signed-counted false v =
-    by-order v valueMost
-    (λ large.
-    let most : min v valueMost ≡ valueMost = omega arith in
-    rw (most, le-ltb v (2 ^ 63) (omega arith)))
-    (λ small. let same : min v valueMost ≡ v = omega arith in ap (signedValue false) same)
+    (λ large. too-large negative (min v valueMost) (omega arith) ∙ sym (too-large negative v large))
+    (λ small. let same : min v valueMost ≡ v = omega arith in ap (signedValue negative) same)

@@ -5,7 +5,7 @@ use mathlib.Core.List.{List, [], _∷_}
 use Prim.Native.Nat.{ℕ, _-_, _≤_, _<_}
 use lib.ListN.{length, take, drop, getD}
 use lib.Dec.{eqb, ltb}
-use Rattle.guide.specs.Choice.{choose}
+use Rattle.rules.specs.Choice.{choose}
 
 unfoldable pub isBlank : ℕ → Bool
 isBlank b = eqb b 32 || eqb b 9

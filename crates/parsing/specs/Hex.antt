@@ -1,9 +1,10 @@
 -- Bytes from hex digits of either case, two to a byte, the higher first.
+use mathlib.Core.Path.{_≡_}
 use mathlib.Core.Bool.{Bool, _&&_, _||_}
 use mathlib.Core.List.{List, [], _∷_}
-use Prim.Native.Nat.{ℕ, _+_, _*_, _-_}
+use Prim.Native.Nat.{ℕ, _+_, _*_, _-_, _<_}
 use lib.Dec.{leb}
-use Rattle.guide.specs.Choice.{choose}
+use Rattle.rules.specs.Choice.{choose}
 use Rattle.parsing.specs.Bytes.{allBytes}
 use Rattle.parsing.specs.Number.{isDigit}
 
@@ -27,6 +28,10 @@ hexValue b =
     (choose (isLowerHex b) (b - 87)
     (choose (isUpperHex b) (b - 55)
     0))
+
+pub record IsHexValue (b v : ℕ) : Type 0 where
+  pub value : v ≡ hexValue b
+  pub small : v < 16
 
 -- the bytes that hex digits stand for. If their number is odd, the last digit is left out
 unfoldable pub bytesOfHex : List ℕ → List ℕ

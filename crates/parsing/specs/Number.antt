@@ -4,9 +4,9 @@ use mathlib.Core.List.{List, [], _∷_}
 use Prim.Native.Nat.{ℕ, _+_, _*_, _-_, _^_}
 use lib.ListN.{length}
 use lib.Dec.{eqb, leb, ltb}
-use lib.IntN.{ℤ, pos, negsuc, negℤ}
+use lib.IntN.{ℤ, pos, negsuc, negℤ, natAbs}
 use lib.Signed.{leZ}
-use Rattle.guide.specs.Choice.{require, choose}
+use Rattle.rules.specs.Choice.{require, choose}
 use Rattle.parsing.specs.declared.numbers.Number.{Number}
 use Rattle.parsing.specs.declared.numbers.Number.the-variants as number
 use Rattle.parsing.specs.Bytes.{allBytes}
@@ -45,9 +45,9 @@ signedValue false n = choose (ltb n (2 ^ 63)) (whole (pos n)) beyond
 unfoldable pub digitsNumber : (negative : Bool) → List ℕ → FieldNumber
 digitsNumber negative digits = require (areDigits digits) noNumber (signedValue negative (valueOf digits))
 
-unfoldable pub numberIn : List ℕ → FieldNumber
-numberIn [] = noNumber
-numberIn (b ∷ rest) = choose (eqb b 45) (digitsNumber true rest) (digitsNumber false (b ∷ rest))
+unfoldable pub numberInField : List ℕ → FieldNumber
+numberInField [] = noNumber
+numberInField (b ∷ rest) = choose (eqb b 45) (digitsNumber true rest) (digitsNumber false (b ∷ rest))
 
 -- what the cases of the program's number say
 unfoldable pub numberSays : Number → FieldNumber
@@ -57,27 +57,25 @@ numberSays (number.Whole z) = whole z
 
 -- ---- what a number stands for
 
+-- a number of low..high. Anything else counts as `otherwise`
+unfoldable pub numberWithin : (low high otherwise : ℤ) → FieldNumber → ℤ
+numberWithin low high otherwise noNumber = otherwise
+numberWithin low high otherwise beyond = otherwise
+numberWithin low high otherwise (whole z) = require (leZ low z && leZ z high) otherwise z
+
 -- a number outside 0..65535 is not a kind. It counts as 0, which is not one either
-unfoldable pub kindOf : FieldNumber → ℕ
-kindOf noNumber = 0
-kindOf beyond = 0
-kindOf (whole (pos n)) = choose (ltb n 65536) n 0
-kindOf (whole (negsuc n)) = 0
+unfoldable pub kindInField : FieldNumber → ℕ
+kindInField n = natAbs (numberWithin (pos 0) (pos 65535) (pos 0) n)
 
 -- a number that does not fit a sixteen-bit word is out of range. It counts as 32767, which is in no kind's range
 abbrev pub outOfRange : ℤ
 outOfRange = pos 32767
 
-unfoldable pub fitsWord : ℤ → Bool
-fitsWord z = leZ (negsuc 32767) z && leZ z (pos 32767)
-
-unfoldable pub wordOf : FieldNumber → ℤ
-wordOf noNumber = outOfRange
-wordOf beyond = outOfRange
-wordOf (whole z) = choose (fitsWord z) z outOfRange
+unfoldable pub wordInField : FieldNumber → ℤ
+wordInField n = numberWithin (negsuc 32767) (pos 32767) outOfRange n
 
 -- a reading may be any signed 64-bit number. A field without one counts as 0, and the line has a fault
-unfoldable pub readingOf : FieldNumber → ℤ
-readingOf noNumber = pos 0
-readingOf beyond = pos 0
-readingOf (whole z) = z
+unfoldable pub readingInField : FieldNumber → ℤ
+readingInField noNumber = pos 0
+readingInField beyond = pos 0
+readingInField (whole z) = z

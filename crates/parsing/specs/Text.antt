@@ -4,7 +4,7 @@ use mathlib.Core.Bool.{Bool}
 use mathlib.Core.List.{List, [], _∷_}
 use Prim.Native.Nat.{ℕ, _-_, _≤_}
 use lib.ListN.{length, take, drop}
-use Rattle.guide.specs.Choice.{choose}
+use Rattle.rules.specs.Choice.{choose}
 use Rattle.parsing.specs.Bytes.{sameBytes}
 
 -- the text begins with these bytes. A shorter text does not

@@ -1,10 +1,10 @@
 // Bytes from hex digits of either case, two to a byte, the higher first.
 use crate::numbers::is_digit;
 ghost use mathlib.Core.Path.{_≡_};
-ghost use Prim.Native.Nat.{_≤_, _<_};
+ghost use Prim.Native.Nat.{_≤_};
 ghost use lib.ListN.{length};
-ghost use Rattle.parsing.specs.Bytes.{PutInFront};
-ghost use Rattle.parsing.specs.Hex.{isLowerHex, isUpperHex, isHex, areHex, hexValue, bytesOfHex};
+ghost use Rattle.rules.specs.Buffer.{Placed};
+ghost use Rattle.parsing.specs.Hex.{isLowerHex, isUpperHex, isHex, areHex, IsHexValue, bytesOfHex};
 
 pub fn are_hex(text: &[u8]) -> bool
     ensures { λ r. ⌜ r ≡ areHex (now (text .entry)) ⌝ }
@@ -22,7 +22,7 @@ pub fn are_hex(text: &[u8]) -> bool
 // Puts the bytes that hex digits stand for at the front of a buffer. Answers how many they are.
 pub fn put_bytes_of_hex(text: &[u8], bytes: &mut [u8]) -> usize
     requires { ⌜ length (now text) ≤ length (now bytes) ⌝ }
-    ensures { λ r. ⌜ PutInFront (bytesOfHex (now (text .entry))) (now (bytes .entry)) (now (bytes .exit)) r ⌝ }
+    ensures { λ r. ⌜ Placed (now (bytes .entry)) 0 (bytesOfHex (now (text .entry))) (now (bytes .exit)) r ⌝ }
 {
     let n = text.len() / 2;
     let mut i: usize = 0;
@@ -52,7 +52,7 @@ fn is_upper_hex(b: u8) -> bool
 }
 
 fn hex_value(b: u8) -> u8
-    ensures { λ r. ⌜ (r ≡ hexValue b) × (r < 16) ⌝ }
+    ensures { λ r. ⌜ IsHexValue b r ⌝ }
 {
     if is_digit(b) {
         return b - 48;

@@ -2,8 +2,8 @@
 ghost use mathlib.Core.Path.{_≡_};
 ghost use mathlib.Core.Bool.{true};
 ghost use Prim.Native.Nat.{_+_, _*_, _-_, _≤_, min};
-ghost use Rattle.parsing.specs.Number.{isDigit, areDigits, valueOf, valueMost, signedValue, digitsNumber, numberIn, numberSays};
-ghost use Rattle.parsing.specs.Number.{kindOf, wordOf, readingOf};
+ghost use Rattle.parsing.specs.Number.{isDigit, areDigits, valueOf, valueMost, signedValue, digitsNumber, numberInField, numberSays};
+ghost use Rattle.parsing.specs.Number.{numberWithin, kindInField, wordInField, readingInField};
 
 // 2^63, and the least number that fits signed 64 bits with neither sign.
 const SIGN_BIT: u64 = 9223372036854775808;
@@ -18,8 +18,8 @@ pub enum Number {
     Whole(i64),
 }
 
-pub fn number_in(text: &[u8]) -> Number
-    ensures { λ r. ⌜ numberSays r ≡ numberIn (now (text .entry)) ⌝ }
+pub fn number_in_field(text: &[u8]) -> Number
+    ensures { λ r. ⌜ numberSays r ≡ numberInField (now (text .entry)) ⌝ }
 {
     if text.len() == 0 {
         return Number::NoNumber;
@@ -30,43 +30,38 @@ pub fn number_in(text: &[u8]) -> Number
     digits_number(false, text)
 }
 
-pub fn kind_of(n: Number) -> u16
-    ensures { λ r. ⌜ r ≡ kindOf (numberSays n) ⌝ }
+pub fn kind_in_field(n: Number) -> u16
+    ensures { λ r. ⌜ r ≡ kindInField (numberSays n) ⌝ }
 {
-    let Number::Whole(z) = n else {
-        return 0;
-    };
-    if z < 0 {
-        return 0;
-    }
-    if 65535 < z {
-        return 0;
-    }
-    z as u16
+    number_within(n, 0, 65535, 0) as u16
 }
 
-pub fn word_of(n: Number) -> i16
-    ensures { λ r. ⌜ r ≡ wordOf (numberSays n) ⌝ }
+pub fn word_in_field(n: Number) -> i16
+    ensures { λ r. ⌜ r ≡ wordInField (numberSays n) ⌝ }
 {
-    let Number::Whole(z) = n else {
-        return 32767;
-    };
-    if z < -32768 {
-        return 32767;
-    }
-    if 32767 < z {
-        return 32767;
-    }
-    z as i16
+    number_within(n, -32768, 32767, 32767) as i16
 }
 
-pub fn reading_of(n: Number) -> i64
-    ensures { λ r. ⌜ r ≡ readingOf (numberSays n) ⌝ }
+pub fn reading_in_field(n: Number) -> i64
+    ensures { λ r. ⌜ r ≡ readingInField (numberSays n) ⌝ }
 {
     let Number::Whole(z) = n else {
         return 0;
     };
     z
+}
+
+// A number of low..high. Anything else counts as `otherwise`.
+fn number_within(n: Number, low: i64, high: i64, otherwise: i64) -> i64
+    ensures { λ r. ⌜ r ≡ numberWithin low high otherwise (numberSays n) ⌝ }
+{
+    let Number::Whole(z) = n else {
+        return otherwise;
+    };
+    if (low <= z) & (z <= high) {
+        return z;
+    }
+    otherwise
 }
 
 // The number that digits denote, with the sign that stood before them.

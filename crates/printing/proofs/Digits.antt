@@ -10,8 +10,8 @@ use borrow.Author.Tests.{lt-ltb, le-ltb, ltb-true, ltb-false}
 use lib.Dec.{ltb}
 use lib.ListN.{length, getD, length-append}
 use lib.IntN.{ℤ, pos, negsuc, natAbs}
-use Rattle.guide.specs.Sizes.{lineParts}
-use Rattle.guide.proofs.Booleans.{by-test}
+use Rattle.rules.specs.Sizes.{lineParts}
+use Rattle.rules.proofs.Booleans.{by-test}
 use Rattle.printing.specs.Decimal.{zeroCode, digit, decimalBy, decimal, signedDecimal, spaceCode, spacedWords}
 use Rattle.printing.specs.Decimal.{lastDigits, decimalsOfPart, partsNatural, partsDecimal}
 

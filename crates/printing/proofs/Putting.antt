@@ -1,55 +1,87 @@
 -- Laws of text put into a buffer: no text (`puts-none`), a byte (`puts-byte`, `puts-left-out`), one text after the other (`puts-then`).
--- The buffer keeps its length (`puts-length`), and a place within it stays within (`puts-within`). If there is room, the buffer holds the
--- text, and no other byte changes (`puts-room`). If there may be no room, it holds as much of the text as there is room for (`puts-cut`).
-use mathlib.Core.Path.{_≡_, refl, sym, ap, _∙_, subst}
+-- The buffer keeps its length (`puts-length`), and a place within it stays within (`puts-within`). If there is room, the text is placed
+-- whole (`puts-room`). If there may be no room, the buffer holds as much of the text as there is room for (`puts-cut`).
+use mathlib.Core.Path.{_≡_, refl, sym, ap, _∙_}
 use mathlib.Core.List.{List, [], _∷_, _++_, append-assoc, append-nil}
-use Prim.Native.Nat.{ℕ, suc, _+_, _<_, _≤_, min}
+use Prim.Native.Nat.{ℕ, zero, suc, _+_, _-_, _<_, _≤_, min}
 use native.Mathlib.Omega.{arith}
 use native.Mathlib.Nat.{zero-add}
-use native.Mathlib.Numerals.{add-one}
-use borrow.Author.Tests.{ltb-true, lt-ltb, le-ltb}
-use lib.Dec.{ltb}
-use lib.ListN.{length, take, drop, set, getD, length-set, length-take}
-use lib.Seq.{sets, sets-eq, take-suc, take-suc-set, take-all, take-at}
-use Rattle.guide.proofs.Choice.{choose-ind}
-use Rattle.guide.proofs.Integers.{by-order}
-use Rattle.printing.specs.Output.{Output, output, putByte, putAll, Puts}
+use native.Mathlib.Numerals.{add-one, unary-clauses}
+use lib.ListN.{length, take, drop, set, getD, length-append, length-take}
+use lib.Seq.{length-take-le, take-suc, take-all, take-at, take-nil, take-append-add}
+use Rattle.rules.specs.Buffer.{overwritten, Placed}
+use Rattle.rules.proofs.Buffer.{placed-none, placed-one, placed-then, placed-length, front-buffer}
+use Rattle.rules.proofs.Integers.{by-order}
+use Rattle.printing.specs.Output.{Puts}
 
 -- ---- none, and a byte
 
 pub puts-none : (before : List ℕ) (at : ℕ) → Puts before at [] before at
-unfolding putAll
-puts-none before at = record { same = refl }
+puts-none before at = record { placed = rw take-nil (placed-none before at) }
 
-module _ (before : List ℕ) (at b : ℕ) where
-  put-in : at < length before → putByte (output before at) b ≡ output (set before at b) (at + 1)
-  unfolding putByte
-  put-in h = rw (lt-ltb at (length before) h)
+pub puts-byte : (before : List ℕ) (at b : ℕ) → at < length before → Puts before at (b ∷ []) (set before at b) (at + 1)
+puts-byte before at b room =
+    record { placed = rw (take-all (length before - at) (b ∷ []) (omega arith)) (placed-one before at b room) }
 
-  put-out : length before ≤ at → putByte (output before at) b ≡ output before at
-  unfolding putByte
-  put-out h = rw (le-ltb at (length before) h)
+-- ---- a buffer without room
 
-  pub puts-byte : at < length before → Puts before at (b ∷ []) (set before at b) (at + 1)
-  unfolding putAll
-  puts-byte h = record { same = sym (put-in h) }
+module _ (before : List ℕ) (at : ℕ) (full : length before ≤ at) where
+  none-fits : (x : List ℕ) → take (length before - at) x ≡ []
+  none-fits x = let none : length before - at ≡ 0 = omega arith in rw none
 
-  -- no room for it
-  pub puts-left-out : length before ≤ at → Puts before at (b ∷ []) before at
-  unfolding putAll
-  puts-left-out h = record { same = sym (put-out h) }
+  puts-nothing : (x : List ℕ) → Puts before at x before at
+  puts-nothing x = record { placed = rw (none-fits x) (placed-none before at) }
+
+  full-buffer : {x after : List ℕ} {next : ℕ} → Puts before at x after next → after ≡ before
+  full-buffer {x} puts = puts .placed .buffer ∙ rw (none-fits x) (sym (placed-none before at .buffer))
+
+  full-place : {x after : List ℕ} {next : ℕ} → Puts before at x after next → next ≡ at
+  full-place {x} puts = puts .placed .place ∙ rw (none-fits x) (omega arith)
+
+-- no room for a byte
+pub puts-left-out : (before : List ℕ) (at b : ℕ) → length before ≤ at → Puts before at (b ∷ []) before at
+puts-left-out before at b full = puts-nothing before at full (b ∷ [])
+
+-- ---- the buffer's length
+
+-- what fits, fits
+fits : (before : List ℕ) (at : ℕ) (x : List ℕ) → at ≤ length before → at + length (take (length before - at) x) ≤ length before
+fits before at x within = omega (arith, length-take (length before - at) x)
+
+pub puts-length : {before after x : List ℕ} {at next : ℕ} → Puts before at x after next → length after ≡ length before
+puts-length {before} {x = x} {at = at} puts =
+    by-order at (length before)
+    (λ full. ap length (full-buffer before at full puts))
+    (λ room. placed-length (take (length before - at) x) (fits before at x (omega arith)) (puts .placed))
+
+-- a place within the buffer stays within it
+pub puts-within : {before after x : List ℕ} {at next : ℕ} → at ≤ length before → Puts before at x after next → next ≤ length after
+puts-within {before} {x = x} {at = at} within puts =
+    omega (arith, fits before at x within, puts .placed .place, puts-length puts)
 
 -- ---- one text after the other
 
-pub put-append : (o : Output) (x y : List ℕ) → putAll o (x ++ y) ≡ putAll (putAll o x) y
-unfolding putAll
-put-append o [] y = refl
-put-append o (b ∷ x) y = put-append (putByte o b) x y
+take-append : (n : ℕ) (x y : List ℕ) → take n (x ++ y) ≡ take n x ++ take (n - length x) y
+take-append zero x y = let none : 0 - length x ≡ 0 = omega arith in rw none
+take-append (suc n) [] y = simp unary-clauses
+take-append (suc n) (b ∷ x) y = simp unary-clauses (ap (λ (l : List ℕ). b ∷ l) (take-append n x y))
 
 pub puts-then : {before between after x y : List ℕ} {at middle next : ℕ}
     → Puts before at x between middle → Puts between middle y after next → Puts before at (x ++ y) after next
-puts-then {before} {x = x} {y = y} {at = at} first second =
-    record { same = second .same ∙ ap (λ (o : Output). putAll o y) (first .same) ∙ sym (put-append (output before at) x y) }
+puts-then {before} {between} {after} {x} {y} {at} {middle} {next} first second =
+    by-order at (length before)
+    (λ full.
+    let second = rw (full-buffer before at full first, full-place before at full first) at second in
+    rw (full-buffer before at full second, full-place before at full second) (puts-nothing before at full (x ++ y)))
+    (λ room.
+    let n = length before - at in
+    let left : n - length x ≡ length between - middle =
+    omega (arith, puts-length first, first .placed .place, length-take n x) in
+    record {
+      placed =
+          rw (take-append n x y, left)
+          (placed-then (take n x) (take (length between - middle) y) (fits before at x (omega arith)) (first .placed) (second .placed));
+    })
 
 -- a loop that puts the texts of the elements of a list, one after the other: the next element, and the end
 module _ {A : Type 0} (text : List A → List ℕ) (xs : List A) (i : ℕ) {before : List ℕ} {at : ℕ} where
@@ -63,65 +95,35 @@ module _ {A : Type 0} (text : List A → List ℕ) (xs : List A) (i : ℕ) {befo
       → Puts before at (text (take i xs)) after next → Puts before at (text xs) after next
   puts-all h puts = rw (take-all i xs h) at puts
 
--- ---- the buffer's length, and what it holds
+-- a loop that puts a text part by part: what is put, and what remains
+pub record PutSoFar (before : List ℕ) (at : ℕ) (whole rest after : List ℕ) (next : ℕ) : Type 0 where
+  pub text : List ℕ
+  pub puts : Puts before at text after next
+  pub joins : text ++ rest ≡ whole
 
-length-put-byte : (o : Output) (b : ℕ) → length (putByte o b .bytes) ≡ length (o .bytes)
-unfolding putByte
-length-put-byte o b =
-    let put = output (set (o .bytes) (o .place) b) (o .place + 1) in
-    choose-ind (λ (p : Output). length (p .bytes) ≡ length (o .bytes)) (ltb (o .place) (length (o .bytes))) put o
-    (λ e. length-set (o .bytes) (o .place) b) (λ e. refl)
+pub so-far-none : {before whole : List ℕ} {at : ℕ} → PutSoFar before at whole whole before at
+so-far-none {before} {at = at} = record { text = []; puts = puts-none before at; joins = refl }
 
-length-put-all : (o : Output) (x : List ℕ) → length (putAll o x .bytes) ≡ length (o .bytes)
-unfolding putAll
-length-put-all o [] = refl
-length-put-all o (b ∷ x) = length-put-all (putByte o b) x ∙ length-put-byte o b
-
-pub puts-length : {before after x : List ℕ} {at next : ℕ} → Puts before at x after next → length after ≡ length before
-puts-length {before} {x = x} {at = at} puts = ap (λ (o : Output). length (o .bytes)) (puts .same) ∙ length-put-all (output before at) x
-
--- a place within the buffer stays within it
-within-byte : (o : Output) (b : ℕ) → o .place ≤ length (o .bytes) → putByte o b .place ≤ length (putByte o b .bytes)
-unfolding putByte
-within-byte o b h =
-    let put = output (set (o .bytes) (o .place) b) (o .place + 1) in
-    choose-ind (λ (p : Output). p .place ≤ length (p .bytes)) (ltb (o .place) (length (o .bytes))) put o
-    (λ e. let room = ltb-true (o .place) (length (o .bytes)) e in omega (arith, length-set (o .bytes) (o .place) b)) (λ e. h)
-
-within-all : (o : Output) (x : List ℕ) → o .place ≤ length (o .bytes) → putAll o x .place ≤ length (putAll o x .bytes)
-unfolding putAll
-within-all o [] h = h
-within-all o (b ∷ x) h = within-all (putByte o b) x (within-byte o b h)
-
-pub puts-within : {before after x : List ℕ} {at next : ℕ} → at ≤ length before → Puts before at x after next → next ≤ length after
-puts-within {before} {after} {x} {at} {next} h puts =
-    subst (λ (o : Output). o .place ≤ length (o .bytes)) (sym (puts .same)) (within-all (output before at) x h)
-
-put-sets : (x before : List ℕ) (at : ℕ) → at + length x ≤ length before
-    → putAll (output before at) x ≡ output (sets before at x) (at + length x)
-unfolding putAll
-put-sets [] before at room = let none : at ≡ at + 0 = omega arith in ap (output before) none
-put-sets (b ∷ x) before at room =
-    let place : suc at + length x ≡ at + suc (length x) = omega arith in
-    let again = put-sets x (set before at b) (suc at) (rw length-set (omega arith)) in
-    ap (λ (o : Output). putAll o x) (put-in before at b (omega arith))
-    ∙ ap (λ (k : ℕ). putAll (output (set before at b) k) x) (add-one at)
-    ∙ again ∙ ap (output (sets before at (b ∷ x))) place
-
-pub record Holds (before : List ℕ) (at : ℕ) (x after : List ℕ) (next : ℕ) : Type 0 where
-  pub bytes : after ≡ take at before ++ (x ++ drop (at + length x) before)
-  pub place : next ≡ at + length x
-
-pub puts-room : {before after : List ℕ} {at next : ℕ} (x : List ℕ) → at + length x ≤ length before
-    → Puts before at x after next → Holds before at x after next
-puts-room {before} {after} {at} {next} x room puts =
-    let e = puts .same ∙ put-sets x before at room in
+pub so-far-more : {before between after whole rest x y : List ℕ} {at middle next : ℕ} → PutSoFar before at whole rest between middle
+    → rest ≡ x ++ y → Puts between middle x after next → PutSoFar before at whole y after next
+so-far-more {x = x} {y = y} so-far e more =
     record {
-      bytes =
-          ap (λ (o : Output). o .bytes) e ∙ sets-eq x before at room
-          ∙ append-assoc (take at before) x (drop (at + length x) before);
-      place = ap (λ (o : Output). o .place) e;
+      text = so-far .text ++ x;
+      puts = puts-then (so-far .puts) more;
+      joins = append-assoc (so-far .text) x y ∙ ap (λ (l : List ℕ). so-far .text ++ l) (sym e) ∙ so-far .joins;
     }
+
+pub so-far-all : {before after whole rest : List ℕ} {at next : ℕ} → PutSoFar before at whole rest after next → rest ≡ []
+    → Puts before at whole after next
+so-far-all so-far e =
+    rw (sym (so-far .joins) ∙ ap (λ (l : List ℕ). so-far .text ++ l) e ∙ append-nil (so-far .text)) (so-far .puts)
+
+-- ---- what the buffer holds
+
+-- if there is room, the text is placed whole
+pub puts-room : {before after : List ℕ} {at next : ℕ} (x : List ℕ) → at + length x ≤ length before
+    → Puts before at x after next → Placed before at x after next
+puts-room {before} {at = at} x room puts = rw (take-all (length before - at) x (omega arith)) at (puts .placed)
 
 -- at the front of the buffer
 pub record Front (before x after : List ℕ) (next : ℕ) : Type 0 where
@@ -130,49 +132,27 @@ pub record Front (before x after : List ℕ) (next : ℕ) : Type 0 where
 
 pub puts-front : {before after : List ℕ} {next : ℕ} (x : List ℕ) → length x ≤ length before
     → Puts before 0 x after next → Front before x after next
-puts-front {before} x room puts =
-    let h = puts-room x (omega arith) puts in
-    record { bytes = h .bytes ∙ rw zero-add; place = h .place ∙ zero-add (length x) }
+puts-front x room puts =
+    let placed = puts-room x (omega arith) puts in
+    record { bytes = front-buffer placed; place = placed .place ∙ zero-add (length x) }
 
--- ---- what the buffer holds up to the place, if there may be no room for the whole text
-
+-- what the buffer holds up to the place, if there may be no room for the whole text
 pub record Cut (before : List ℕ) (at : ℕ) (x after : List ℕ) (next : ℕ) : Type 0 where
   pub place : next ≡ min (at + length x) (length before)
   pub bytes : take next after ≡ take (length before) (take at before ++ x)
 
-abbrev IsCut : (before : List ℕ) (at : ℕ) (x : List ℕ) → Output → Type 0
-IsCut before at x o = Cut before at x (o .bytes) (o .place)
-
-put-cut : (x before : List ℕ) (at : ℕ) → at ≤ length before → IsCut before at x (putAll (output before at) x)
-unfolding putAll
-put-cut [] before at h =
-    let front = take at before in
-    let short : length front ≤ length before = omega (arith, length-take at before) in
-    record { place = omega arith; bytes = sym (ap (take (length before)) (append-nil front) ∙ take-all (length before) front short) }
-put-cut (b ∷ x) before at h =
-    by-order at (length before)
-    (λ full.
-    let rest = put-cut x before at h in
-    let front = take at before in
-    let whole : length front ≡ length before = omega (arith, length-take at before) in
-    subst (λ (o : Output). IsCut before at (b ∷ x) (putAll o x)) (sym (put-out before at b full))
-    (record {
-      place = omega (arith, rest .place);
-      bytes = rest .bytes ∙ take-at front x (length before) whole ∙ sym (take-at front (b ∷ x) (length before) whole);
-    }))
-    (λ room.
-    let rest = put-cut x (set before at b) (at + 1) (rw length-set (omega arith)) in
-    let size = length-set before at b in
-    let front : take (at + 1) (set before at b) ≡ take at before ++ (b ∷ []) = rw add-one (take-suc-set before at b room) in
-    subst (λ (o : Output). IsCut before at (b ∷ x) (putAll o x)) (sym (put-in before at b room))
-    (record {
-      place = omega (arith, rest .place);
-      bytes =
-          rest .bytes ∙ ap (λ (k : ℕ). take k (take (at + 1) (set before at b) ++ x)) size
-          ∙ ap (λ (l : List ℕ). take (length before) (l ++ x)) front
-          ∙ ap (take (length before)) (append-assoc (take at before) (b ∷ []) x);
-    }))
-
 pub puts-cut : {before after x : List ℕ} {at next : ℕ} → at ≤ length before → Puts before at x after next → Cut before at x after next
-puts-cut {before} {after} {x} {at} {next} h puts =
-    subst (IsCut before at x) (sym (puts .same)) (put-cut x before at h)
+unfolding overwritten
+puts-cut {before} {after} {x} {at} {next} within puts =
+    let front = take at before in
+    let fitting = take (length before - at) x in
+    let start : length front ≡ at = length-take-le at before within in
+    let counted : length (front ++ fitting) ≡ next = omega (arith, length-append front fitting, puts .placed .place) in
+    let whole : length before ≡ length front + (length before - at) = omega arith in
+    record {
+      place = omega (arith, puts .placed .place, length-take (length before - at) x);
+      bytes =
+          ap (take next) (puts .placed .buffer ∙ sym (append-assoc front fitting (drop (at + length fitting) before)))
+          ∙ take-at (front ++ fitting) (drop (at + length fitting) before) next counted
+          ∙ sym (ap (λ (k : ℕ). take k (front ++ x)) whole ∙ take-append-add front x (length before - at));
+    }

@@ -1,8 +1,8 @@
--- A signed number as text, by its sign: a minus sign and the text of its magnitude, or that text alone. A word after a space.
+-- A signed number as text: a minus sign if it is below 0, and the text of its magnitude. A word after a space.
 use mathlib.Core.Path.{_≡_, refl, sym, ap, _∙_}
 use mathlib.Core.Bool.{true, false, false≢true}
-use mathlib.Core.List.{List, [], _∷_}
-use Prim.Native.Nat.{ℕ, suc}
+use mathlib.Core.List.{List, [], _∷_, _++_}
+use Prim.Native.Nat.{ℕ}
 use native.Mathlib.Omega.{arith}
 use borrow.Author.Tests.{ltb-true}
 use lib.IntN.{ℤ, pos, negsuc, natAbs}
@@ -10,49 +10,35 @@ use lib.Signed.{ltZ}
 use mir.Syntax.{w16, w64}
 use mir.Val.{SFits, toZ, ofZ}
 use mir.Facts.{toZ-ofZ}
-use Rattle.printing.specs.Decimal.{minusCode, spaceCode, decimal, signedDecimal, spacedWords, partsNatural, partsDecimal}
+use Rattle.printing.specs.Ascii.{ascii}
+use Rattle.printing.specs.Decimal.{spaceCode, signText, signedDecimal, spacedWords}
 use Rattle.printing.specs.Output.{Puts}
 use Rattle.printing.proofs.Putting.{puts-then}
 use Rattle.printing.proofs.Digits.{spaced-one}
 
--- the text of a number is that of its magnitude, with a minus sign before it if the number is below 0
-pub record Signed (text : ℤ → List ℕ) (magnitude : ℕ → List ℕ) : Type 0 where
-  pub natural : (n : ℕ) → text (pos n) ≡ magnitude n
-  pub negative : (n : ℕ) → text (negsuc n) ≡ minusCode ∷ magnitude (suc n)
+sign-below : (z : ℤ) → ltZ z (pos 0) ≡ true → signText z ≡ ascii "-"
+sign-below (pos n) t = absurd (omega (arith, ltb-true n 0 t))
+sign-below (negsuc n) t = refl
 
-pub signed-decimal : Signed signedDecimal decimal
-unfolding signedDecimal
-signed-decimal = record { natural = λ n. refl; negative = λ n. refl }
+sign-not-below : (z : ℤ) → ltZ z (pos 0) ≡ false → signText z ≡ []
+sign-not-below (pos n) t = refl
+sign-not-below (negsuc n) t = absurd (false≢true (sym t))
 
-pub signed-parts : Signed partsDecimal partsNatural
-unfolding partsDecimal
-signed-parts = record { natural = λ n. refl; negative = λ n. refl }
+-- a number as the machine holds it
+module _ (z : ℤ) (fits : SFits w64 z) where
+  pub held-below : ltZ (toZ w64 (ofZ w64 z)) (pos 0) ≡ true → signText z ≡ ascii "-"
+  held-below t = sign-below z (rw (toZ-ofZ fits) at t)
 
-module _ {text : ℤ → List ℕ} {magnitude : ℕ → List ℕ} (s : Signed text magnitude) where
-  text-below : (z : ℤ) → ltZ z (pos 0) ≡ true → text z ≡ minusCode ∷ magnitude (natAbs z)
-  text-below (pos n) t = absurd (omega (arith, ltb-true n 0 t))
-  text-below (negsuc n) t = s .negative n
+  pub held-not-below : ltZ (toZ w64 (ofZ w64 z)) (pos 0) ≡ false → signText z ≡ []
+  held-not-below t = sign-not-below z (rw (toZ-ofZ fits) at t)
 
-  text-not-below : (z : ℤ) → ltZ z (pos 0) ≡ false → text z ≡ magnitude (natAbs z)
-  text-not-below (pos n) t = s .natural n
-  text-not-below (negsuc n) t = absurd (false≢true (sym t))
-
-  -- a number as the machine holds it, and its magnitude r
-  module _ {before after : List ℕ} {at next r : ℕ} (z : ℤ) (fits : SFits w64 z) (size : r ≡ natAbs (toZ w64 (ofZ w64 z))) where
-    pub puts-below : {between : List ℕ} {middle : ℕ} → ltZ (toZ w64 (ofZ w64 z)) (pos 0) ≡ true
-        → Puts before at (minusCode ∷ []) between middle → Puts between middle (magnitude r) after next
-        → Puts before at (text z) after next
-    puts-below t sign rest =
-        let own = toZ-ofZ fits in
-        let size = size ∙ ap natAbs own in
-        rw (text-below z (rw own at t), ← size) (puts-then sign rest)
-
-    pub puts-not-below : ltZ (toZ w64 (ofZ w64 z)) (pos 0) ≡ false
-        → Puts before at (magnitude r) after next → Puts before at (text z) after next
-    puts-not-below t all =
-        let own = toZ-ofZ fits in
-        let size = size ∙ ap natAbs own in
-        rw (text-not-below z (rw own at t), ← size) all
+  -- its sign, and then the text of its magnitude r
+  pub puts-signed : {before between after : List ℕ} {at middle next r : ℕ} (magnitude : ℕ → List ℕ) → r ≡ natAbs (toZ w64 (ofZ w64 z))
+      → Puts before at (signText (toZ w64 (ofZ w64 z))) between middle → Puts between middle (magnitude r) after next
+      → Puts before at (signText z ++ magnitude (natAbs z)) after next
+  puts-signed magnitude size sign rest =
+      let own = toZ-ofZ fits in
+      puts-then (rw own at sign) (rw (size ∙ ap natAbs own) at rest)
 
 -- a word as the machine holds it, after a space
 pub puts-spaced : {before after : List ℕ} {at next : ℕ} (w : ℤ) → SFits w16 w

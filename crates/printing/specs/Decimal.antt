@@ -2,19 +2,14 @@
 use mathlib.Core.List.{List, [], _∷_, _++_}
 use Prim.Native.Nat.{ℕ, zero, suc, _+_, _*_, _/_, _%_}
 use lib.Dec.{ltb}
-use lib.IntN.{ℤ, pos, negsuc}
-use Rattle.guide.specs.Choice.{choose}
-use Rattle.guide.specs.Sizes.{lineParts}
+use lib.IntN.{ℤ, pos, negsuc, natAbs}
+use Rattle.rules.specs.Choice.{choose}
+use Rattle.rules.specs.Sizes.{lineParts}
+use Rattle.printing.specs.Ascii.{ascii}
 
--- the codes of '0', '-', '.' and the space
+-- the codes of '0' and the space
 abbrev pub zeroCode : ℕ
 zeroCode = 48
-
-abbrev pub minusCode : ℕ
-minusCode = 45
-
-abbrev pub pointCode : ℕ
-pointCode = 46
 
 abbrev pub spaceCode : ℕ
 spaceCode = 32
@@ -33,9 +28,12 @@ unfoldable pub decimal : ℕ → List ℕ
 decimal n = decimalBy (suc n) n
 
 -- a number below 0 has a minus sign
+abbrev pub signText : ℤ → List ℕ
+signText (pos n) = []
+signText (negsuc n) = ascii "-"
+
 unfoldable pub signedDecimal : ℤ → List ℕ
-signedDecimal (pos n) = decimal n
-signedDecimal (negsuc n) = minusCode ∷ decimal (suc n)
+signedDecimal z = signText z ++ decimal (natAbs z)
 
 -- words, each after a space
 unfoldable pub spacedWords : List ℤ → List ℕ
@@ -53,9 +51,8 @@ decimalsOfPart = 390625
 
 -- n / 256, with eight decimals
 unfoldable pub partsNatural : ℕ → List ℕ
-partsNatural n = decimal (n / lineParts) ++ (pointCode ∷ lastDigits 8 (n % lineParts * decimalsOfPart))
+partsNatural n = decimal (n / lineParts) ++ (ascii "." ++ lastDigits 8 (n % lineParts * decimalsOfPart))
 
 -- k / 256, with eight decimals
 unfoldable pub partsDecimal : ℤ → List ℕ
-partsDecimal (pos n) = partsNatural n
-partsDecimal (negsuc n) = minusCode ∷ partsNatural (suc n)
+partsDecimal k = signText k ++ partsNatural (natAbs k)

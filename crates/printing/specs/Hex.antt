@@ -2,7 +2,7 @@
 use mathlib.Core.List.{List, [], _∷_}
 use Prim.Native.Nat.{ℕ, _+_, _/_, _%_}
 use lib.Dec.{ltb}
-use Rattle.guide.specs.Choice.{choose}
+use Rattle.rules.specs.Choice.{choose}
 
 -- the code of a hex digit: '0' to '9', then 'a' to 'f'
 unfoldable pub hexDigit : ℕ → ℕ

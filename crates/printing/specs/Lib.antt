@@ -2,3 +2,4 @@ pub mod Output
 pub mod Decimal
 pub mod Hex
 pub mod Ascii
+pub mod Table

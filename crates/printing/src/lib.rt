@@ -1,9 +1,11 @@
-// Text put into a lent buffer: bytes, numbers in decimal, 256ths with eight decimals, bytes as hex digits.
+// Text put into a lent buffer: bytes, numbers in decimal, 256ths with eight decimals, bytes as hex digits,
+// the texts of a table.
 //
 // Each function puts its text into the buffer from a place on. It answers the place after the text, where the next text goes. A byte for
 // which there is no room is left out, and does not move the place.
 pub mod hex;
 pub mod numbers;
+pub mod tables;
 
 ghost use mathlib.Core.List.{[], _∷_};
 ghost use Rattle.printing.specs.Output.{Puts};

@@ -1,13 +1,12 @@
 // Numbers as text: in decimal, and 256ths exactly, with eight decimals.
 use crate::put_byte;
+use limits::LINE_PARTS;
 use limits::magnitude;
 ghost use mathlib.Core.List.{[], _∷_};
 ghost use Prim.Native.Nat.{_<_};
 ghost use Rattle.printing.specs.Output.{Puts};
 ghost use Rattle.printing.specs.Decimal.{spaceCode, digit, decimal, signedDecimal, spacedWords};
-ghost use Rattle.printing.specs.Decimal.{lastDigits, partsNatural, partsDecimal};
-
-const LINE_PARTS: u64 = 256;
+ghost use Rattle.printing.specs.Decimal.{signText, lastDigits, partsDecimal};
 
 // 1/256 is 0.00390625.
 const DECIMALS_OF_PART: u64 = 390625;
@@ -26,11 +25,8 @@ pub fn put_decimal(out: &mut [u8], at: usize, n: u64) -> usize
 pub fn put_signed(out: &mut [u8], at: usize, z: i64) -> usize
     ensures { λ r. ⌜ Puts (now (out .entry)) at (signedDecimal z) (now (out .exit)) r ⌝ }
 {
-    if z < 0 {
-        let next = put_byte(out, at, b'-');
-        return put_decimal(out, next, magnitude(z));
-    }
-    put_decimal(out, at, magnitude(z))
+    let next = put_sign(out, at, z);
+    put_decimal(out, next, magnitude(z))
 }
 
 // Each word after a space.
@@ -46,15 +42,30 @@ pub fn put_words(out: &mut [u8], at: usize, words: &[i16]) -> usize
     next
 }
 
-// k / 256, exactly.
+// k / 256, exactly: the sign, the whole part, then the rest as eight decimals.
 pub fn put_parts(out: &mut [u8], at: usize, k: i64) -> usize
     ensures { λ r. ⌜ Puts (now (out .entry)) at (partsDecimal k) (now (out .exit)) r ⌝ }
 {
-    if k < 0 {
-        let next = put_byte(out, at, b'-');
-        return put_natural_parts(out, next, magnitude(k));
+    let after_sign = put_sign(out, at, k);
+    let n = magnitude(k);
+    let after_whole = put_decimal(out, after_sign, n / (LINE_PARTS as u64));
+    let after_point = put_byte(out, after_whole, b'.');
+    put_last_digits(
+        out,
+        after_point,
+        8,
+        n % (LINE_PARTS as u64) * DECIMALS_OF_PART,
+    )
+}
+
+// A minus sign, if z is below 0.
+fn put_sign(out: &mut [u8], at: usize, z: i64) -> usize
+    ensures { λ r. ⌜ Puts (now (out .entry)) at (signText z) (now (out .exit)) r ⌝ }
+{
+    if z < 0 {
+        return put_byte(out, at, b'-');
     }
-    put_natural_parts(out, at, magnitude(k))
+    at
 }
 
 fn put_digit(out: &mut [u8], at: usize, d: u64) -> usize
@@ -69,15 +80,6 @@ fn put_word(out: &mut [u8], at: usize, w: i16) -> usize
 {
     let next = put_byte(out, at, b' ');
     put_signed(out, next, w as i64)
-}
-
-// n / 256: the whole part, then the rest as eight decimals.
-fn put_natural_parts(out: &mut [u8], at: usize, n: u64) -> usize
-    ensures { λ r. ⌜ Puts (now (out .entry)) at (partsNatural n) (now (out .exit)) r ⌝ }
-{
-    let after_whole = put_decimal(out, at, n / LINE_PARTS);
-    let after_point = put_byte(out, after_whole, b'.');
-    put_last_digits(out, after_point, 8, n % LINE_PARTS * DECIMALS_OF_PART)
 }
 
 // The last `count` digits of n, with zeros in front if it has fewer.

@@ -6,7 +6,7 @@ use native.Mathlib.Omega.{arith}
 use lib.ListN.{length, take, length-take}
 use lib.Seq.{take-all}
 use lib.IntN.{ℤ}
-use Rattle.guide.proofs.Integers.{by-order}
+use Rattle.rules.proofs.Integers.{by-order}
 
 -- the first r places are the words that a chart of n words has
 pub record FirstWords (n r : ℕ) (places : List ℤ) : Type 0 where

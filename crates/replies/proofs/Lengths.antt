@@ -5,27 +5,24 @@ use mathlib.Core.Bool.{Bool, true, false}
 use mathlib.Core.List.{List}
 use Prim.Native.Nat.{ℕ, _+_, _*_, _^_, _<_, _≤_}
 use native.Mathlib.Omega.{arith}
-use lib.Dec.{eqb, lit≤}
+use lib.Dec.{lit≤}
 use lib.ListN.{length, getD, length-append}
 use lib.IntN.{ℤ, pos, natAbs}
 use lib.Ieee.{Float}
-use Rattle.guide.specs.Word.{Formed}
-use Rattle.guide.specs.Word as word
-use Rattle.guide.specs.State.{State}
-use Rattle.guide.specs.Building.{BuildingAnswer}
-use Rattle.guide.specs.Building as building
-use Rattle.guide.specs.Machine.{Answer, judged, reanalysed, corrected, renewed, refused}
-use Rattle.guide.specs.Reading.{ReadingAnswer}
-use Rattle.guide.specs.Reading as reading
-use Rattle.guide.specs.ChartLines.{duplicate, twoSided, ChartLinesAnswer, linesGiven}
-use Rattle.guide.specs.ChartLines as lines
-use Rattle.guide.proofs.Choice.{choose-ind}
+use Rattle.rules.specs.Outcome.{Outcome, given}
+use Rattle.rules.specs.Outcome as outcome
+use Rattle.rules.specs.State.{State}
+use Rattle.rules.specs.Building.{BuiltState}
+use Rattle.rules.specs.Machine.{Answer, judged, reanalysed, corrected, renewed, refused}
+use Rattle.rules.specs.ChartLines.{Lines, duplicate, twoSided}
 use Rattle.lines.specs.Lines.{partsHeld}
 use Rattle.lines.proofs.PartsHeld.{held-small}
 use Rattle.printing.specs.Decimal.{decimal}
 use Rattle.printing.proofs.Digits.{decimal-length, signed-length, spaced-words-length, parts-length}
 use Rattle.printing.proofs.HexDigits.{hex-length}
 use Rattle.printing.specs.Ascii.{ascii}
+use Rattle.replies.specs.declared.Fault.{Fault}
+use Rattle.replies.specs.declared.Fault.the-variants as fault
 use Rattle.replies.specs.Faults.{faultText}
 use Rattle.replies.specs.Texts.{refusalText, wordText, roundsText, outcomeText, formedText, buildingText, answerText}
 use Rattle.replies.specs.Texts.{readingText, chartLineText, linesText, bytesText, listText, stateText}
@@ -56,21 +53,21 @@ outcome-length false = refl
 
 -- ---- what the calls answer
 
-abbrev pub ShortFormed : Formed → Type 0
-ShortFormed (word.formed w) = Short (natAbs w)
-ShortFormed (word.refused n) = Short n
+abbrev pub ShortFormed : Outcome ℤ → Type 0
+ShortFormed (given w) = Short (natAbs w)
+ShortFormed (outcome.refused n) = Short n
 
-pub formed-length : (f : Formed) → ShortFormed f → length (formedText f) ≤ 40
-formed-length (word.formed w) h = omega (arith, word-length w h)
-formed-length (word.refused n) h = omega (arith, refusal-length n h)
+pub formed-length : (f : Outcome ℤ) → ShortFormed f → length (formedText f) ≤ 40
+formed-length (given w) h = omega (arith, word-length w h)
+formed-length (outcome.refused n) h = omega (arith, refusal-length n h)
 
-abbrev pub ShortBuilding : BuildingAnswer → Type 0
-ShortBuilding (building.built s rounds removed) = Short rounds × Short removed
-ShortBuilding (building.refused n) = Short n
+abbrev pub ShortBuilding : Outcome BuiltState → Type 0
+ShortBuilding (given b) = Short (b .rounds) × Short (b .removed)
+ShortBuilding (outcome.refused n) = Short n
 
-pub building-length : (a : BuildingAnswer) → ShortBuilding a → length (buildingText a) ≤ 40
-building-length (building.built s rounds removed) h = rw length-append (omega (arith, rounds-length rounds removed (h .0) (h .1)))
-building-length (building.refused n) h = omega (arith, refusal-length n h)
+pub building-length : (a : Outcome BuiltState) → ShortBuilding a → length (buildingText a) ≤ 40
+building-length (given b) h = rw length-append (omega (arith, rounds-length (b .rounds) (b .removed) (h .0) (h .1)))
+building-length (outcome.refused n) h = omega (arith, refusal-length n h)
 
 abbrev pub ShortAnswer : Answer → Type 0
 ShortAnswer (judged w v) = Short (natAbs w) × Short v
@@ -87,13 +84,13 @@ answer-length corrected h = lit≤ tt
 answer-length (renewed rounds removed) h = rw length-append (omega (arith, rounds-length rounds removed (h .0) (h .1)))
 answer-length (refused n) h = omega (arith, refusal-length n h)
 
-abbrev pub ShortReading : ReadingAnswer → Type 0
-ShortReading (reading.taken s) = Unit
-ShortReading (reading.refused n) = Short n
+abbrev pub ShortReading : Outcome State → Type 0
+ShortReading (given s) = Unit
+ShortReading (outcome.refused n) = Short n
 
-pub reading-length : (a : ReadingAnswer) → ShortReading a → length (readingText a) ≤ 40
-reading-length (reading.taken s) h = lit≤ tt
-reading-length (reading.refused n) h = omega (arith, refusal-length n h)
+pub reading-length : (a : Outcome State) → ShortReading a → length (readingText a) ≤ 40
+reading-length (given s) h = lit≤ tt
+reading-length (outcome.refused n) h = omega (arith, refusal-length n h)
 
 -- ---- lines: for any doubles, the numbers read off them fit 64 bits
 
@@ -101,14 +98,14 @@ line-length : (x : Float) → length (chartLineText x) ≤ 31
 unfolding chartLineText
 line-length x = rw length-append (omega (arith, parts-length (partsHeld x) (omega (arith, held-small x))))
 
-abbrev pub ShortLines : ChartLinesAnswer → Type 0
-ShortLines (linesGiven l) = Unit
-ShortLines (lines.refused n) = Short n
+abbrev pub ShortLines : Outcome Lines → Type 0
+ShortLines (given l) = Unit
+ShortLines (outcome.refused n) = Short n
 
-pub lines-length : (a : ChartLinesAnswer) → ShortLines a → length (linesText a) ≤ 160
-lines-length (linesGiven (duplicate mean upperWarning upperControl)) h =
+pub lines-length : (a : Outcome Lines) → ShortLines a → length (linesText a) ≤ 160
+lines-length (given (duplicate mean upperWarning upperControl)) h =
     rw (length-append, length-append, length-append) (omega (arith, line-length mean, line-length upperWarning, line-length upperControl))
-lines-length (linesGiven (twoSided mean lowerWarning upperWarning lowerControl upperControl)) h =
+lines-length (given (twoSided mean lowerWarning upperWarning lowerControl upperControl)) h =
     rw (length-append, length-append, length-append, length-append, length-append)
     (omega (
       arith,
@@ -118,7 +115,7 @@ lines-length (linesGiven (twoSided mean lowerWarning upperWarning lowerControl u
       line-length lowerControl,
       line-length upperControl,
     ))
-lines-length (lines.refused n) h = omega (arith, refusal-length n h)
+lines-length (outcome.refused n) h = omega (arith, refusal-length n h)
 
 -- ---- a stored form, and a chart
 
@@ -162,14 +159,12 @@ state-length s h =
 
 -- ---- the texts of faults
 
-pub fault-length : (n : ℕ) → length (faultText n) ≤ 80
-unfolding faultText
-fault-length n =
-    let short : List ℕ → Type 0 = λ text. length text ≤ 80 in
-    choose-ind short (eqb n 1) _ _ (λ _. lit≤ tt)
-    (λ _. choose-ind short (eqb n 2) _ _ (λ _. lit≤ tt)
-    (λ _. choose-ind short (eqb n 3) _ _ (λ _. lit≤ tt)
-    (λ _. choose-ind short (eqb n 4) _ _ (λ _. lit≤ tt)
-    (λ _. choose-ind short (eqb n 5) _ _ (λ _. lit≤ tt)
-    (λ _. choose-ind short (eqb n 6) _ _ (λ _. lit≤ tt)
-    (λ _. choose-ind short (eqb n 7) _ _ (λ _. lit≤ tt) (λ _. lit≤ tt)))))))
+pub fault-length : (f : Fault) → length (faultText f) ≤ 80
+fault-length fault.UnknownCommand = lit≤ tt
+fault-length fault.MissingNumber = lit≤ tt
+fault-length fault.ExtraNumber = lit≤ tt
+fault-length fault.NotANumber = lit≤ tt
+fault-length fault.NumberTooLarge = lit≤ tt
+fault-length fault.NotAHexDigit = lit≤ tt
+fault-length fault.OddHexDigits = lit≤ tt
+fault-length fault.LineTooLong = lit≤ tt

@@ -1,4 +1,3 @@
--- Laws of the texts of faults, of the words of a chart that are shown, and of how long the texts can be.
-mod OtherFault
+-- Laws of the words of a chart that are shown, and of how long the texts can be.
 mod FirstWords
 pub mod Lengths

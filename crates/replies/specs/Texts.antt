@@ -5,16 +5,12 @@ use Prim.Native.Nat.{ℕ}
 use lib.ListN.{length}
 use lib.IntN.{ℤ}
 use lib.Ieee.{Float}
-use Rattle.guide.specs.Word.{Formed}
-use Rattle.guide.specs.Word as word
-use Rattle.guide.specs.State.{State}
-use Rattle.guide.specs.Building.{BuildingAnswer}
-use Rattle.guide.specs.Building as building
-use Rattle.guide.specs.Machine.{Answer, judged, reanalysed, corrected, renewed, refused}
-use Rattle.guide.specs.Reading.{ReadingAnswer}
-use Rattle.guide.specs.Reading as reading
-use Rattle.guide.specs.ChartLines.{duplicate, twoSided, ChartLinesAnswer, linesGiven}
-use Rattle.guide.specs.ChartLines as lines
+use Rattle.rules.specs.Outcome.{Outcome, given}
+use Rattle.rules.specs.Outcome as outcome
+use Rattle.rules.specs.State.{State}
+use Rattle.rules.specs.Building.{BuiltState}
+use Rattle.rules.specs.Machine.{Answer, judged, reanalysed, corrected, renewed, refused}
+use Rattle.rules.specs.ChartLines.{Lines, duplicate, twoSided}
 use Rattle.lines.specs.declared.TwoSidedLines.{TwoSidedLines}
 use Rattle.lines.specs.Lines.{partsHeld}
 use Rattle.printing.specs.Decimal.{decimal, signedDecimal, spacedWords, partsDecimal}
@@ -35,16 +31,16 @@ wordText w = ascii "word " ++ signedDecimal w
 
 -- `rounds R removed M`
 unfoldable pub roundsText : ℕ → ℕ → List ℕ
-roundsText rounds removed = ascii "rounds " ++ (decimal rounds ++ (ascii " removed " ++ decimal removed))
+roundsText rounds removed = namedText (ascii "rounds ") rounds ++ namedText (ascii " removed ") removed
 
-abbrev pub formedText : Formed → List ℕ
-formedText (word.formed w) = wordText w
-formedText (word.refused n) = refusalText n
+abbrev pub formedText : Outcome ℤ → List ℕ
+formedText (given w) = wordText w
+formedText (outcome.refused n) = refusalText n
 
 -- `built rounds R removed M`
-abbrev pub buildingText : BuildingAnswer → List ℕ
-buildingText (building.built s rounds removed) = ascii "built " ++ roundsText rounds removed
-buildingText (building.refused n) = refusalText n
+abbrev pub buildingText : Outcome BuiltState → List ℕ
+buildingText (given b) = ascii "built " ++ roundsText (b .rounds) (b .removed)
+buildingText (outcome.refused n) = refusalText n
 
 -- ` passed` or ` failed`
 abbrev pub outcomeText : Bool → List ℕ
@@ -53,7 +49,7 @@ outcomeText false = ascii " failed"
 
 -- `word W verdict V`, `word W passed` or `word W failed`, `corrected`, `renewed rounds R removed M`
 abbrev pub answerText : Answer → List ℕ
-answerText (judged w v) = wordText w ++ (ascii " verdict " ++ decimal v)
+answerText (judged w v) = wordText w ++ namedText (ascii " verdict ") v
 answerText (reanalysed w passed) = wordText w ++ outcomeText passed
 answerText corrected = ascii "corrected"
 answerText (renewed rounds removed) = ascii "renewed " ++ roundsText rounds removed
@@ -65,25 +61,25 @@ unfoldable pub chartLineText : Float → List ℕ
 chartLineText x = ascii " " ++ partsDecimal (partsHeld x)
 
 -- `lines MEAN LOWER-WARNING UPPER-WARNING LOWER-CONTROL UPPER-CONTROL`; for kind 1 `lines MEAN UPPER-WARNING UPPER-CONTROL`
-abbrev pub linesText : ChartLinesAnswer → List ℕ
-linesText (linesGiven (duplicate mean upperWarning upperControl)) =
+abbrev pub linesText : Outcome Lines → List ℕ
+linesText (given (duplicate mean upperWarning upperControl)) =
     ascii "lines" ++ (chartLineText mean ++ (chartLineText upperWarning ++ chartLineText upperControl))
-linesText (linesGiven (twoSided mean lowerWarning upperWarning lowerControl upperControl)) =
+linesText (given (twoSided mean lowerWarning upperWarning lowerControl upperControl)) =
     ascii "lines" ++ (chartLineText mean
     ++ (chartLineText lowerWarning ++ (chartLineText upperWarning ++ (chartLineText lowerControl ++ chartLineText upperControl))))
-linesText (lines.refused n) = refusalText n
+linesText (outcome.refused n) = refusalText n
 
 -- `bytes N HEX`
 unfoldable pub bytesText : List ℕ → List ℕ
-bytesText bytes = ascii "bytes " ++ (decimal (length bytes) ++ (ascii " " ++ hexOf bytes))
+bytesText bytes = namedText (ascii "bytes ") (length bytes) ++ (ascii " " ++ hexOf bytes)
 
-abbrev pub readingText : ReadingAnswer → List ℕ
-readingText (reading.taken s) = ascii "read"
-readingText (reading.refused n) = refusalText n
+abbrev pub readingText : Outcome State → List ℕ
+readingText (given s) = ascii "read"
+readingText (outcome.refused n) = refusalText n
 
 -- a name, the number of words, the words: ` base N W1 .. WN`
 unfoldable pub listText : List ℕ → List ℤ → List ℕ
-listText name words = name ++ (decimal (length words) ++ spacedWords words)
+listText name words = namedText name (length words) ++ spacedWords words
 
 -- `chart kind K status S verdict V base N W1 .. WN series M W1 .. WM`
 unfoldable pub stateText : State → List ℕ

@@ -18,17 +18,18 @@ use printing::put_text;
 use store::ReadAnswer;
 use words::Formed;
 ghost use mathlib.Core.Path.{_≡_};
+ghost use mathlib.Core.List.{_++_};
 ghost use Prim.Native.Nat.{min};
 ghost use Rattle.words.specs.Formed.{formedSays};
 ghost use Rattle.chart.specs.Chart.{stateOf, buildSays};
 ghost use Rattle.chart.specs.Calls.{postSays, reanalysisSays, correctionSays, renewalSays};
-ghost use Rattle.guide.specs.ChartLines.{linesGiven};
 ghost use Rattle.lines.specs.Lines.{linesSay, linesAnswerSays};
 ghost use Rattle.store.specs.Store.{readSays};
 ghost use Rattle.printing.specs.Output.{Puts};
 ghost use Rattle.replies.specs.Faults.{faultText};
 ghost use Rattle.replies.specs.Texts.{namedText, refusalText, wordText, roundsText, formedText, buildingText, answerText};
 ghost use Rattle.replies.specs.Texts.{chartLineText, linesText, bytesText, readingText, listText, stateText, fiveLinesText};
+ghost use Rattle.rules.specs.Outcome.{given};
 
 pub fn put_formed(out: &mut [u8], formed: Formed) -> usize
     ensures { λ r. ⌜ Puts (now (out .entry)) 0 (formedText (formedSays formed)) (now (out .exit)) r ⌝ }
@@ -39,15 +40,12 @@ pub fn put_formed(out: &mut [u8], formed: Formed) -> usize
     }
 }
 
-// `chart` is the chart that building gave. Only the contract needs it: the text does not show it.
-pub fn put_build(out: &mut [u8], chart: Chart, answer: BuildAnswer) -> usize
-    ensures { λ r. ⌜ Puts (now (out .entry)) 0 (buildingText (buildSays chart answer)) (now (out .exit)) r ⌝ }
+// The text does not show the chart that building gave: it is the same for every chart.
+pub fn put_build(out: &mut [u8], answer: BuildAnswer) -> usize
+    ensures { λ r. ⌜ ((built : Chart) → Puts (now (out .entry)) 0 (buildingText (buildSays built answer)) (now (out .exit)) r) ⌝ }
 {
     match answer {
-        BuildAnswer::Done { rounds, removed } => {
-            let at = put_text(out, 0, b"built ");
-            put_rounds(out, at, rounds, removed)
-        }
+        BuildAnswer::Done { rounds, removed } => put_rounds(out, b"built ", rounds, removed),
         BuildAnswer::Refused(n) => put_refusal(out, n),
     }
 }
@@ -57,9 +55,8 @@ pub fn put_post(out: &mut [u8], answer: PostAnswer) -> usize
 {
     match answer {
         PostAnswer::Judged { word, verdict } => {
-            let behind_word = put_word(out, word);
-            let at = put_text(out, behind_word, b" verdict ");
-            put_decimal(out, at, verdict as u64)
+            let at = put_word(out, word);
+            put_named(out, at, b" verdict ", verdict as u64)
         }
         PostAnswer::Refused(n) => put_refusal(out, n),
     }
@@ -69,14 +66,8 @@ pub fn put_reanalysis(out: &mut [u8], answer: ReanalysisAnswer) -> usize
     ensures { λ r. ⌜ Puts (now (out .entry)) 0 (answerText (reanalysisSays answer)) (now (out .exit)) r ⌝ }
 {
     match answer {
-        ReanalysisAnswer::Passed(w) => {
-            let at = put_word(out, w);
-            put_text(out, at, b" passed")
-        }
-        ReanalysisAnswer::Failed(w) => {
-            let at = put_word(out, w);
-            put_text(out, at, b" failed")
-        }
+        ReanalysisAnswer::Passed(w) => put_outcome(out, w, b" passed"),
+        ReanalysisAnswer::Failed(w) => put_outcome(out, w, b" failed"),
         ReanalysisAnswer::Refused(n) => put_refusal(out, n),
     }
 }
@@ -94,10 +85,7 @@ pub fn put_renewal(out: &mut [u8], answer: RenewalAnswer) -> usize
     ensures { λ r. ⌜ Puts (now (out .entry)) 0 (answerText (renewalSays answer)) (now (out .exit)) r ⌝ }
 {
     match answer {
-        RenewalAnswer::Done { rounds, removed } => {
-            let at = put_text(out, 0, b"renewed ");
-            put_rounds(out, at, rounds, removed)
-        }
+        RenewalAnswer::Done { rounds, removed } => put_rounds(out, b"renewed ", rounds, removed),
         RenewalAnswer::Refused(n) => put_refusal(out, n),
     }
 }
@@ -111,8 +99,9 @@ pub fn put_lines(out: &mut [u8], answer: LinesAnswer) -> usize
     }
 }
 
-pub fn put_reading(out: &mut [u8], taken: Chart, answer: ReadAnswer) -> usize
-    ensures { λ r. ⌜ Puts (now (out .entry)) 0 (readingText (readSays taken answer)) (now (out .exit)) r ⌝ }
+// What reading a stored form answers. The text is the same for every chart that was taken.
+pub fn put_form_read(out: &mut [u8], answer: ReadAnswer) -> usize
+    ensures { λ r. ⌜ ((taken : Chart) → Puts (now (out .entry)) 0 (readingText (readSays taken answer)) (now (out .exit)) r) ⌝ }
 {
     match answer {
         ReadAnswer::Done => put_text(out, 0, b"read"),
@@ -124,8 +113,7 @@ pub fn put_reading(out: &mut [u8], taken: Chart, answer: ReadAnswer) -> usize
 pub fn put_form(out: &mut [u8], bytes: &[u8]) -> usize
     ensures { λ r. ⌜ Puts (now (out .entry)) 0 (bytesText (now (bytes .entry))) (now (out .exit)) r ⌝ }
 {
-    let at = put_text(out, 0, b"bytes ");
-    let behind_count = put_decimal(out, at, bytes.len() as u64);
+    let behind_count = put_named(out, 0, b"bytes ", bytes.len() as u64);
     let at_digits = put_text(out, behind_count, b" ");
     put_hex(out, at_digits, bytes)
 }
@@ -134,9 +122,9 @@ pub fn put_form(out: &mut [u8], bytes: &[u8]) -> usize
 pub fn put_chart(out: &mut [u8], chart: Chart) -> usize
     ensures { λ r. ⌜ Puts (now (out .entry)) 0 (stateText (stateOf chart)) (now (out .exit)) r ⌝ }
 {
-    let behind_kind = put_named(out, 0, b"chart kind ", chart.kind);
-    let behind_status = put_named(out, behind_kind, b" status ", chart.status);
-    let behind_verdict = put_named(out, behind_status, b" verdict ", chart.open_verdict);
+    let behind_kind = put_named(out, 0, b"chart kind ", chart.kind as u64);
+    let behind_status = put_named(out, behind_kind, b" status ", chart.status as u64);
+    let behind_verdict = put_named(out, behind_status, b" verdict ", chart.open_verdict as u64);
     let base = chart.base;
     let n = smaller(chart.base_len, Chart::BASE_MOST);
     let behind_base = put_list(out, behind_verdict, b" base ", &base[..n]);
@@ -148,46 +136,58 @@ pub fn put_chart(out: &mut [u8], chart: Chart) -> usize
 pub fn put_refusal(out: &mut [u8], n: u16) -> usize
     ensures { λ r. ⌜ Puts (now (out .entry)) 0 (refusalText n) (now (out .exit)) r ⌝ }
 {
-    put_named(out, 0, b"refused ", n)
+    put_named(out, 0, b"refused ", n as u64)
+}
+
+// What can be wrong with a line.
+pub enum Fault {
+    UnknownCommand,
+    MissingNumber,
+    ExtraNumber,
+    NotANumber,
+    NumberTooLarge,
+    NotAHexDigit,
+    OddHexDigits,
+    LineTooLong,
 }
 
 // The text of a fault in a line.
-pub fn put_fault(out: &mut [u8], fault: u8) -> usize
+pub fn put_fault(out: &mut [u8], fault: Fault) -> usize
     ensures { λ r. ⌜ Puts (now (out .entry)) 0 (faultText fault) (now (out .exit)) r ⌝ }
 {
     match fault {
-        1 => put_text(
+        Fault::UnknownCommand => put_text(
             out,
             0,
             b"error: unknown command; control_chart help lists the commands",
         ),
-        2 => put_text(
+        Fault::MissingNumber => put_text(
             out,
             0,
             b"error: missing number; control_chart help shows what each command takes",
         ),
-        3 => put_text(
+        Fault::ExtraNumber => put_text(
             out,
             0,
             b"error: extra number; control_chart help shows what each command takes",
         ),
-        4 => put_text(
+        Fault::NotANumber => put_text(
             out,
             0,
             b"error: not a number; numbers are whole and in decimal, as 10250 or -313",
         ),
-        5 => put_text(
+        Fault::NumberTooLarge => put_text(
             out,
             0,
             b"error: number too large; a reading is at most 1000000000",
         ),
-        6 => put_text(
+        Fault::NotAHexDigit => put_text(
             out,
             0,
             b"error: not a hex digit; hex digits are 0 to 9 and a to f",
         ),
-        7 => put_text(out, 0, b"error: odd number of hex digits; a byte has two"),
-        _ => put_text(
+        Fault::OddHexDigits => put_text(out, 0, b"error: odd number of hex digits; a byte has two"),
+        Fault::LineTooLong => put_text(
             out,
             0,
             b"error: line too long; a line has at most 8191 bytes",
@@ -204,17 +204,25 @@ fn put_word(out: &mut [u8], w: i16) -> usize
     put_signed(out, at, w as i64)
 }
 
-fn put_rounds(out: &mut [u8], at: usize, rounds: usize, removed: usize) -> usize
-    ensures { λ r. ⌜ Puts (now (out .entry)) at (roundsText rounds removed) (now (out .exit)) r ⌝ }
+// A reanalysed word, and whether it passed.
+fn put_outcome(out: &mut [u8], w: i16, outcome: &[u8]) -> usize
+    ensures { λ r. ⌜ Puts (now (out .entry)) 0 (wordText w ++ now (outcome .entry)) (now (out .exit)) r ⌝ }
 {
-    let at_rounds = put_text(out, at, b"rounds ");
-    let behind_rounds = put_decimal(out, at_rounds, rounds as u64);
-    let at_removed = put_text(out, behind_rounds, b" removed ");
-    put_decimal(out, at_removed, removed as u64)
+    let at = put_word(out, w);
+    put_text(out, at, outcome)
+}
+
+// What was done, the number of rounds and the number of words removed.
+fn put_rounds(out: &mut [u8], done: &[u8], rounds: usize, removed: usize) -> usize
+    ensures { λ r. ⌜ Puts (now (out .entry)) 0 (now (done .entry) ++ roundsText rounds removed) (now (out .exit)) r ⌝ }
+{
+    let at = put_text(out, 0, done);
+    let behind_rounds = put_named(out, at, b"rounds ", rounds as u64);
+    put_named(out, behind_rounds, b" removed ", removed as u64)
 }
 
 fn put_each_line(out: &mut [u8], lines: Lines) -> usize
-    ensures { λ r. ⌜ Puts (now (out .entry)) 0 (linesText (linesGiven (linesSay lines))) (now (out .exit)) r ⌝ }
+    ensures { λ r. ⌜ Puts (now (out .entry)) 0 (linesText (given (linesSay lines))) (now (out .exit)) r ⌝ }
 {
     let at = put_text(out, 0, b"lines");
     match lines {
@@ -250,19 +258,18 @@ fn put_chart_line(out: &mut [u8], at: usize, line: f64) -> usize
 }
 
 // A name, and a number after it.
-fn put_named(out: &mut [u8], at: usize, name: &[u8], n: u16) -> usize
+fn put_named(out: &mut [u8], at: usize, name: &[u8], n: u64) -> usize
     ensures { λ r. ⌜ Puts (now (out .entry)) at (namedText (now (name .entry)) n) (now (out .exit)) r ⌝ }
 {
     let next = put_text(out, at, name);
-    put_decimal(out, next, n as u64)
+    put_decimal(out, next, n)
 }
 
 // A name, how many words there are, and the words.
 fn put_list(out: &mut [u8], at: usize, name: &[u8], words: &[i16]) -> usize
     ensures { λ r. ⌜ Puts (now (out .entry)) at (listText (now (name .entry)) (now (words .entry))) (now (out .exit)) r ⌝ }
 {
-    let at_count = put_text(out, at, name);
-    let behind_count = put_decimal(out, at_count, words.len() as u64);
+    let behind_count = put_named(out, at, name, words.len() as u64);
     put_words(out, behind_count, words)
 }
 

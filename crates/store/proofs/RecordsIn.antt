@@ -2,45 +2,31 @@
 -- `find_record` and `lay_out` answer in each of their branches, and the numbers of a record as they are read one after the other.
 use mathlib.Core.Path.{_≡_, refl, sym, ap, _∙_}
 use mathlib.Core.Bool.{Bool, true, false, _||_, not}
-use mathlib.Core.List.{List, _++_, map, map-append, append-assoc}
-use Prim.Native.Nat.{ℕ, suc, _+_, _*_, _-_, _/_, _%_, _<_, _≤_}
+use mathlib.Core.List.{List, [], _∷_, map}
+use Prim.Native.Nat.{ℕ, zero, suc, _+_, _*_, _-_, _/_, _%_, _<_, _≤_}
 use native.Mathlib.Omega.{arith}
-use native.Mathlib.Numerals.{add-one}
 use lib.Dec.{ltb, eqb}
-use lib.IntN.{ℤ, pos}
-use lib.ListN.{length, take, drop, getD, set, length-drop, length-map}
-use lib.Seq.{drop-drop, drop-cons, take-suc, take-all, set-at, length-take-le}
+use lib.IntN.{ℤ}
+use lib.ListN.{length, drop, getD, length-drop, length-map}
+use lib.Seq.{drop-drop}
 use borrow.Author.Tests.{le-leb, ltb-true, ltb-false, eqb-true, eqb-false, eq-eqb, ne-eqb, not-true, not-false}
-use Rattle.guide.specs.Choice.{choose}
-use Rattle.guide.specs.Sizes.{baseLeast, baseMost, seriesMost}
-use Rattle.guide.specs.Bytes.{numberIn, wordOf}
-use Rattle.guide.specs.Reading.{lengthIn, recordKindIn, countIn, isRecord, startsWith}
-use Rattle.guide.specs.Reading.{afterRecord, fromBase, fromSeries, headCount, isForm}
-use Rattle.guide.proofs.Booleans.{either, by-test}
-use Rattle.guide.proofs.Bytes.{length-numbers, number-at}
-use Rattle.guide.proofs.Reading.{Starts, starts-facts}
-use Rattle.guide.proofs.Reading as guide
+use Rattle.rules.specs.Choice.{choose}
+use Rattle.rules.specs.Sizes.{baseLeast, baseMost, seriesMost}
+use Rattle.rules.specs.Bytes.{numberIn, wordOf}
+use Rattle.rules.specs.ReadForm.{lengthIn, recordKindIn, countIn, isRecord, startsWith}
+use Rattle.rules.specs.ReadForm.{afterRecord, fromBase, fromSeries, headCount, isForm}
+use Rattle.rules.proofs.Booleans.{either, by-test, zero-not-one, neither}
+use Rattle.rules.proofs.Bytes.{length-numbers, number-at}
+use Rattle.rules.proofs.ReadForm.{Starts, starts-facts}
+use Rattle.rules.proofs.ReadForm as rules
+use Rattle.rules.proofs.Choice.{chosen, not-chosen}
 use Rattle.store.specs.declared.reader.Seen.{Seen}
 use Rattle.store.specs.declared.reader.Seen.the-variants as seen
 use Rattle.store.specs.declared.records.Place.{Place}
 use Rattle.store.specs.declared.records.Found.{Found}
 use Rattle.store.specs.declared.records.Found.the-variants as found
 use Rattle.store.specs.declared.Layout.the-variants as layout
-use Rattle.store.specs.Records.{recordIn, placeAt, recordAt, headPlace, basePlace, seriesPlace, layoutOf, numbersAt}
-
--- ---- the condition follows from what was chosen
-
-chosen : {A : Type 0} (t : Bool) (x y a : A) → a ≡ choose t x y → (a ≡ y → ⊥) → (t ≡ true) × (a ≡ x)
-chosen true x y a e other = (refl, e)
-chosen false x y a e other = absurd (other e)
-
-not-chosen : {A : Type 0} (t : Bool) (x y a : A) → a ≡ choose t x y → (a ≡ x → ⊥) → t ≡ false
-not-chosen true x y a e other = absurd (other e)
-not-chosen false x y a e other = refl
-
-neither : (a b : Bool) → (a || b) ≡ false → (a ≡ false) × (b ≡ false)
-neither true b h = absurd (let z : _≡_ {A = ℕ} 0 1 = cc in omega arith)
-neither false b h = (refl, h)
+use Rattle.store.specs.Records.{recordIn, placeAt, recordAt, headPlace, basePlace, seriesPlace, layoutOf, numbersAt, wordsAt}
 
 -- ---- a record that begins at a byte
 
@@ -49,6 +35,12 @@ pub record IsRecord (at n : ℕ) (bytes : List ℕ) : Type 0 where
   pub least : 2 ≤ n
   pub even : n % 2 ≡ 0
   pub enough : at + (2 + n) ≤ length bytes
+
+-- `record_at` saw a record with this record kind and n numbers
+record SawRecord (at kind n : ℕ) (bytes : List ℕ) : Type 0 where
+  is-record : isRecord (drop at bytes) ≡ true
+  kind-is : kind ≡ recordKindIn (drop at bytes)
+  count-is : n ≡ countIn (drop at bytes)
 
 -- `(n < 2) | (n % 2 != 0)`, both ways
 pub no-length : {at : ℕ} {bytes : List ℕ} (n : ℕ) → (ltb n 2 || not (eqb (n % 2) 0)) ≡ true → IsRecord at n bytes → ⊥
@@ -59,14 +51,14 @@ no-length n h is =
 
 pub is-length : (n : ℕ) → (ltb n 2 || not (eqb (n % 2) 0)) ≡ false → (2 ≤ n) × (n % 2 ≡ 0)
 is-length n h =
-    let tests = neither (ltb n 2) (not (eqb (n % 2) 0)) h in
-    (ltb-false n 2 (tests .0), eqb-true (n % 2) 0 (not-false (eqb (n % 2) 0) (tests .1)))
+    let (not-short, not-odd) = neither (ltb n 2) (not (eqb (n % 2) 0)) h in
+    (ltb-false n 2 not-short, eqb-true (n % 2) 0 (not-false (eqb (n % 2) 0) not-odd))
 
 module _ (at : ℕ) (bytes : List ℕ) where
   -- from the test to the facts, and back
   pub record-facts : isRecord (drop at bytes) ≡ true → IsRecord at (lengthIn (drop at bytes)) bytes
   record-facts h =
-      let facts = guide.record-facts (drop at bytes) h in
+      let facts = rules.record-facts (drop at bytes) h in
       record {
         least = omega (arith, facts .length-is);
         even = omega (arith, facts .length-is);
@@ -96,21 +88,19 @@ module _ (at : ℕ) (bytes : List ℕ) where
   -- what follows from its answer
   nothing-seen : seen.Nothing ≡ recordIn (drop at bytes) → isRecord (drop at bytes) ≡ false
   unfolding recordIn
-  nothing-seen e = not-chosen _ _ _ _ e (λ (s : seen.Nothing ≡ seen.Record _ _). let z : _≡_ {A = ℕ} 0 1 = cc in omega arith)
+  nothing-seen e = not-chosen _ _ _ _ e (λ (s : seen.Nothing ≡ seen.Record _ _). zero-not-one cc)
 
-  record-seen : (kind n : ℕ) → seen.Record kind n ≡ recordIn (drop at bytes)
-      → (isRecord (drop at bytes) ≡ true) × ((kind ≡ recordKindIn (drop at bytes)) × (n ≡ countIn (drop at bytes)))
+  record-seen : (kind n : ℕ) → seen.Record kind n ≡ recordIn (drop at bytes) → SawRecord at kind n bytes
   unfolding recordIn
   record-seen kind n e =
-      let first = chosen _ _ _ _ e (λ (s : seen.Record kind n ≡ seen.Nothing). let z : _≡_ {A = ℕ} 0 1 = cc in omega arith) in
-      let same = first .1 in
-      (first .0, (cc, cc))
+      let (there, same) = chosen _ _ _ _ e (λ (s : seen.Record kind n ≡ seen.Nothing). zero-not-one cc) in
+      record { is-record = there; kind-is = cc; count-is = cc }
 
   pub record-within : (kind n : ℕ) → seen.Record kind n ≡ recordIn (drop at bytes) → at + 4 + 2 * n ≤ length bytes
   unfolding countIn
   record-within kind n e =
       let there = record-seen kind n e in
-      omega (arith, record-facts (there .0), there .1 .1)
+      omega (arith, record-facts (there .is-record), there .count-is)
 
 -- ---- bytes that start with a record of a kind
 
@@ -131,8 +121,13 @@ no-count n least most h low high =
 
 is-count : (n least most : ℕ) → (ltb n least || ltb most n) ≡ false → (least ≤ n) × (n ≤ most)
 is-count n least most h =
-    let tests = neither (ltb n least) (ltb most n) h in
-    (ltb-false n least (tests .0), ltb-false most n (tests .1))
+    let (not-few, not-many) = neither (ltb n least) (ltb most n) h in
+    (ltb-false n least not-few, ltb-false most n not-many)
+
+-- `find_record` found a record at p. `there` are the bytes from it on
+record FoundPlace (kind least most at : ℕ) (bytes there : List ℕ) (p : Place) : Type 0 where
+  starts : startsWith kind least most there ≡ true
+  place-is : p ≡ placeAt at bytes
 
 module _ (kind least most at : ℕ) (bytes : List ℕ) where
   not-found : (Starts kind least most (drop at bytes) → ⊥) → found.Nothing ≡ recordAt kind least most at bytes
@@ -145,16 +140,16 @@ module _ (kind least most at : ℕ) (bytes : List ℕ) where
   pub no-record : {r : Seen} → r ≡ recordIn (drop at bytes) → r ≡ seen.Nothing → found.Nothing ≡ recordAt kind least most at bytes
   no-record e is =
       let none = nothing-seen at bytes (sym is ∙ e) in
-      not-found (λ s. let there = s .is-record in let z : _≡_ {A = ℕ} 0 1 = cc in omega arith)
+      not-found (λ s. let there = s .is-record in zero-not-one cc)
 
   -- .. because what was seen has another record kind, or too few numbers or too many. Otherwise it answers with the place of what was seen
   module _ (k n : ℕ) (e : seen.Record k n ≡ recordIn (drop at bytes)) where
     pub other-kind : (k ≡ kind → ⊥) → found.Nothing ≡ recordAt kind least most at bytes
-    other-kind other = not-found (λ s. other (record-seen at bytes k n e .1 .0 ∙ s .kind-is))
+    other-kind other = not-found (λ s. other (record-seen at bytes k n e .kind-is ∙ s .kind-is))
 
     pub other-count : (ltb n least || ltb most n) ≡ true → found.Nothing ≡ recordAt kind least most at bytes
     other-count h =
-        let same = record-seen at bytes k n e .1 .1 in
+        let same = record-seen at bytes k n e .count-is in
         not-found (λ s. no-count n least most h (omega (arith, s .least-count)) (omega (arith, s .most-count)))
 
     pub record-found : k ≡ kind → (ltb n least || ltb most n) ≡ false
@@ -162,15 +157,15 @@ module _ (kind least most at : ℕ) (bytes : List ℕ) where
     unfolding recordAt placeAt countIn
     record-found same-kind h =
         let there = record-seen at bytes k n e in
-        let same = there .1 .1 in
-        let counts = is-count n least most h in
-        let end : at + 4 + 2 * n ≡ at + (2 + lengthIn (drop at bytes)) = omega (arith, record-facts at bytes (there .0)) in
+        let same = there .count-is in
+        let (enough, few) = is-count n least most h in
+        let end : at + 4 + 2 * n ≡ at + (2 + lengthIn (drop at bytes)) = omega (arith, record-facts at bytes (there .is-record)) in
         let starts : Starts kind least most (drop at bytes) =
         record {
-          is-record = there .0;
-          kind-is = sym (there .1 .0) ∙ same-kind;
-          least-count = rw same at (counts .0);
-          most-count = rw same at (counts .1);
+          is-record = there .is-record;
+          kind-is = sym (there .kind-is) ∙ same-kind;
+          least-count = rw same at enough;
+          most-count = rw same at few;
         } in
         rw (starts-from kind least most (drop at bytes) starts)
         (λ i. found.Record (record { first = at + 4; count = same i; end = end i }))
@@ -179,15 +174,13 @@ module _ (kind least most at : ℕ) (bytes : List ℕ) where
   nothing-found : {r : Found} → r ≡ recordAt kind least most at bytes → r ≡ found.Nothing
       → startsWith kind least most (drop at bytes) ≡ false
   unfolding recordAt
-  nothing-found e is = not-chosen _ _ _ _ (sym is ∙ e) (λ (s : found.Nothing ≡ found.Record _). let z : _≡_ {A = ℕ} 0 1 = cc in omega arith)
+  nothing-found e is = not-chosen _ _ _ _ (sym is ∙ e) (λ (s : found.Nothing ≡ found.Record _). zero-not-one cc)
 
-  place-found : (p : Place) → found.Record p ≡ recordAt kind least most at bytes
-      → (startsWith kind least most (drop at bytes) ≡ true) × (p ≡ placeAt at bytes)
+  place-found : (p : Place) → found.Record p ≡ recordAt kind least most at bytes → FoundPlace kind least most at bytes (drop at bytes) p
   unfolding recordAt
   place-found p e =
-      let first = chosen _ _ _ _ e (λ (s : found.Record p ≡ found.Nothing). let z : _≡_ {A = ℕ} 0 1 = cc in omega arith) in
-      let same = first .1 in
-      (first .0, cc)
+      let (there, same) = chosen _ _ _ _ e (λ (s : found.Record p ≡ found.Nothing). zero-not-one cc) in
+      record { starts = there; place-is = cc }
 
 -- the bytes after a record are those after its place
 pub after-place : (at : ℕ) (bytes : List ℕ) → drop (placeAt at bytes .end) bytes ≡ afterRecord (drop at bytes)
@@ -202,47 +195,44 @@ module _ (bytes : List ℕ) where
   no-head e is = rw (nothing-found 1 headCount headCount 0 bytes e is)
 
   module _ (head : Place) (at-head : found.Record head ≡ recordAt 1 headCount headCount 0 bytes) where
-    head-there : (startsWith 1 headCount headCount bytes ≡ true) × (head ≡ placeAt 0 bytes)
+    head-there : FoundPlace 1 headCount headCount 0 bytes bytes head
     head-there = place-found 1 headCount headCount 0 bytes head at-head
 
     base-bytes : drop (head .end) bytes ≡ fromBase bytes
     unfolding fromBase
-    base-bytes = ap (λ (p : Place). drop (p .end) bytes) (head-there .1) ∙ after-place 0 bytes
+    base-bytes = ap (λ (p : Place). drop (p .end) bytes) (head-there .place-is) ∙ after-place 0 bytes
 
     pub no-base : {r : Found} → r ≡ recordAt 2 baseLeast baseMost (head .end) bytes → r ≡ found.Nothing → layout.Other ≡ layoutOf bytes
     unfolding layoutOf isForm
     no-base e is =
         let none = rw base-bytes at (nothing-found 2 baseLeast baseMost (head .end) bytes e is) in
-        rw (head-there .0, none)
+        rw (head-there .starts, none)
 
     module _ (base : Place) (at-base : found.Record base ≡ recordAt 2 baseLeast baseMost (head .end) bytes) where
-      base-there : (startsWith 2 baseLeast baseMost (fromBase bytes) ≡ true) × (base ≡ placeAt (head .end) bytes)
-      base-there =
-          let there = place-found 2 baseLeast baseMost (head .end) bytes base at-base in
-          (rw base-bytes at (there .0), there .1)
+      base-there : FoundPlace 2 baseLeast baseMost (head .end) bytes (fromBase bytes) base
+      base-there = rw base-bytes at (place-found 2 baseLeast baseMost (head .end) bytes base at-base)
 
       series-bytes : drop (base .end) bytes ≡ fromSeries bytes
       unfolding fromSeries
       series-bytes =
-          ap (λ (p : Place). drop (p .end) bytes) (base-there .1) ∙ (after-place (head .end) bytes ∙ ap afterRecord base-bytes)
+          ap (λ (p : Place). drop (p .end) bytes) (base-there .place-is) ∙ (after-place (head .end) bytes ∙ ap afterRecord base-bytes)
 
       pub no-series : {r : Found} → r ≡ recordAt 3 0 seriesMost (base .end) bytes → r ≡ found.Nothing → layout.Other ≡ layoutOf bytes
       unfolding layoutOf isForm
       no-series e is =
           let none = rw series-bytes at (nothing-found 3 0 seriesMost (base .end) bytes e is) in
-          rw (head-there .0, base-there .0, none)
+          rw (head-there .starts, base-there .starts, none)
 
       module _ (series : Place) (at-series : found.Record series ≡ recordAt 3 0 seriesMost (base .end) bytes) where
-        series-there : (startsWith 3 0 seriesMost (fromSeries bytes) ≡ true) × (series ≡ placeAt (base .end) bytes)
-        series-there =
-            let there = place-found 3 0 seriesMost (base .end) bytes series at-series in
-            (rw series-bytes at (there .0), there .1)
+        series-there : FoundPlace 3 0 seriesMost (base .end) bytes (fromSeries bytes) series
+        series-there = rw series-bytes at (place-found 3 0 seriesMost (base .end) bytes series at-series)
 
         -- the number of bytes left over after the third record
         left-over : length (afterRecord (fromSeries bytes)) ≡ length bytes - series .end
         left-over =
             let rest : drop (series .end) bytes ≡ afterRecord (fromSeries bytes) =
-            ap (λ (p : Place). drop (p .end) bytes) (series-there .1) ∙ (after-place (base .end) bytes ∙ ap afterRecord series-bytes) in
+            ap (λ (p : Place). drop (p .end) bytes) (series-there .place-is)
+            ∙ (after-place (base .end) bytes ∙ ap afterRecord series-bytes) in
             sym (ap length rest) ∙ length-drop (series .end) bytes
 
         pub bytes-left : series .end < length bytes → layout.Other ≡ layoutOf bytes
@@ -250,17 +240,17 @@ module _ (bytes : List ℕ) where
         bytes-left some-left =
             let n = length (afterRecord (fromSeries bytes)) in
             let some : eqb n 0 ≡ false = ne-eqb n 0 (λ e. omega (arith, left-over)) in
-            rw (head-there .0, base-there .0, series-there .0, some)
+            rw (head-there .starts, base-there .starts, series-there .starts, some)
 
         pub form-there : length bytes ≤ series .end → layout.Form head base series ≡ layoutOf bytes
         unfolding layoutOf isForm headPlace basePlace seriesPlace
         form-there none-left =
             let n = length (afterRecord (fromSeries bytes)) in
             let none : eqb n 0 ≡ true = eq-eqb n 0 (omega (arith, left-over)) in
-            let head-is : head ≡ headPlace bytes = head-there .1 in
-            let base-is : base ≡ basePlace bytes = base-there .1 ∙ ap (λ (p : Place). placeAt (p .end) bytes) head-is in
-            let series-is : series ≡ seriesPlace bytes = series-there .1 ∙ ap (λ (p : Place). placeAt (p .end) bytes) base-is in
-            rw (head-there .0, base-there .0, series-there .0, none)
+            let head-is : head ≡ headPlace bytes = head-there .place-is in
+            let base-is : base ≡ basePlace bytes = base-there .place-is ∙ ap (λ (p : Place). placeAt (p .end) bytes) head-is in
+            let series-is : series ≡ seriesPlace bytes = series-there .place-is ∙ ap (λ (p : Place). placeAt (p .end) bytes) base-is in
+            rw (head-there .starts, base-there .starts, series-there .starts, none)
             (λ i. layout.Form (head-is i) (base-is i) (series-is i))
 
 -- ---- the numbers of the record at a place
@@ -276,17 +266,19 @@ unfolding numbersAt
 number-of-place bytes p i r h e =
     e ∙ (ap numberIn (sym (drop-drop (2 * i) (p .first) bytes)) ∙ sym (number-at (p .count) i (drop (p .first) bytes) h))
 
--- a turn of `fill`: the first i places hold the words of the first i numbers, and then one more does
-pub filled-more : (ns : List ℕ) (i : ℕ) (before : List ℤ) {places : List ℤ} {w : ℤ} → i < length ns → i < length before
-    → places ≡ map wordOf (take i ns) ++ drop i before → w ≡ wordOf (getD ns i 0)
-    → set places i w ≡ map wordOf (take (i + 1) ns) ++ drop (i + 1) before
-filled-more ns i before {places} {w} h room e is =
-    let words = map wordOf (take i ns) in
-    let count : length words ≡ i = length-map (take i ns) wordOf ∙ length-take-le i ns (omega arith) in
-    let there = set-at words (getD before i (pos 0)) (drop (suc i) before) w i count in
-    rw (e, drop-cons before i (pos 0) room, there, add-one, take-suc ns i 0 h, map-append, append-assoc, is)
+-- element i of a mapped list
+getD-map : {A B : Type 0} (f : A → B) (xs : List A) (i : ℕ) (d : A) → getD (map f xs) i (f d) ≡ f (getD xs i d)
+getD-map f [] i d = refl
+getD-map f (x ∷ xs) zero d = refl
+getD-map f (x ∷ xs) (suc i) d = getD-map f xs i d
 
--- .. and in the end all do
-pub filled-all : (ns : List ℕ) (n : ℕ) (before : List ℤ) {places : List ℤ} → length ns ≡ n
-    → places ≡ map wordOf (take n ns) ++ drop n before → places ≡ map wordOf ns ++ drop n before
-filled-all ns n before count e = e ∙ ap (λ (l : List ℕ). map wordOf l ++ drop n before) (take-all n ns (omega arith))
+-- the words of the record at a place
+module _ (bytes : List ℕ) (p : Place) where
+  pub length-words-at : length (wordsAt bytes p) ≡ p .count
+  unfolding wordsAt
+  length-words-at = length-map (numbersAt bytes p) wordOf ∙ length-numbers-at bytes p
+
+  -- word i, as `fill` forms it from number i
+  pub word-of-place : (i : ℕ) {n : ℕ} {w : ℤ} → n ≡ getD (numbersAt bytes p) i 0 → w ≡ wordOf n → w ≡ getD (wordsAt bytes p) i (wordOf 0)
+  unfolding wordsAt
+  word-of-place i number word = word ∙ (ap wordOf number ∙ sym (getD-map wordOf (numbersAt bytes p) i 0))

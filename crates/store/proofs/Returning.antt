@@ -6,21 +6,26 @@ use mathlib.Core.Bool.{Bool, true, false, _&&_}
 use mathlib.Core.List.{List, _++_}
 use Prim.Native.Nat.{ℕ, _≤_}
 use native.Mathlib.Omega.{arith}
-use lib.ListN.{length, take, drop, length-append}
-use lib.Seq.{take-at, length-take-le}
-use Rattle.guide.specs.Choice.{require}
-use Rattle.guide.specs.Sizes.{baseMost, seriesMost}
-use Rattle.guide.specs.State.{State}
-use Rattle.guide.specs.Machine.{Call}
-use Rattle.guide.specs.StoredForm.{wrote, storedForm, hasRoom, writing, bufferAfter}
-use Rattle.guide.specs.StoredForm as form
-use Rattle.guide.specs.Reading.{taken, refused, reading}
-use Rattle.guide.proofs.Bytes.{AreBytes}
-use Rattle.guide.proofs.Reading.{read-stored, stored-read, one-form, read-sound}
+use lib.ListN.{length, take, drop}
+use Rattle.rules.specs.Outcome.{given, refused}
+use Rattle.rules.specs.Choice.{require}
+use Rattle.rules.specs.Sizes.{baseMost, seriesMost}
+use Rattle.rules.specs.State.{State}
+use Rattle.rules.specs.Machine.{Call}
+use Rattle.rules.specs.StoredForm.{storedForm, formFits, writing, bufferAfter}
+use Rattle.rules.specs.StoredForm as form
+use Rattle.rules.specs.ReadForm.{reading}
+use Rattle.rules.specs.Buffer.{Placed, atFront}
+use Rattle.rules.proofs.Buffer.{front-buffer, front-fits, front-counted, front-is}
+use Rattle.rules.proofs.Bytes.{AreBytes}
+use Rattle.rules.proofs.Outcome.{same-refused, given-not-refused}
+use Rattle.rules.proofs.ReadForm.{read-stored, stored-read, one-form, read-sound}
+use Rattle.rules.proofs.Booleans.{zero-not-one}
 use Rattle.chart.specs.declared.Chart.{Chart}
 use Rattle.chart.specs.Chart.{stateOf, chartOf}
 use Rattle.chart.specs.Soundness.{soundChart}
-use Rattle.chart.proofs.State.{Given, given, state-of-chart, chart-of-state}
+use Rattle.chart.proofs.State.{Given, state-of-chart, chart-of-state}
+use Rattle.chart.proofs.State as state
 use Rattle.chart.proofs.Runs.{Runs, sound-chart-of, sound-runs}
 use Rattle.store.specs.Store.{writeSays, answerToWrite, bufferAfterWrite, Writes, readSays, chartAfterReading, IsRead}
 use Rattle.store.specs.Store.{answerToReturn, chartReturned, Returns}
@@ -29,60 +34,66 @@ use Rattle.store.specs.declared.WriteAnswer.the-variants.{Done, Refused}
 
 -- ---- writing that was not refused
 
-wrote-by : (whole room : Bool) (size n : ℕ) → wrote n ≡ require whole (form.refused 14) (require room (form.refused 15) (wrote size))
-    → (whole ≡ true) × ((room ≡ true) × (n ≡ size))
-wrote-by true true size n e = (refl, (refl, cc))
-wrote-by true false size n e = let z : _≡_ {A = ℕ} 0 1 = cc in absurd (omega arith)
-wrote-by false room size n e = let z : _≡_ {A = ℕ} 0 1 = cc in absurd (omega arith)
+-- n bytes were written: both conditions hold, and n is the form's size
+pub record Wrote (whole room : Bool) (size n : ℕ) : Type 0 where
+  pub sound : whole ≡ true
+  pub fits : room ≡ true
+  pub count : n ≡ size
+
+wrote-by : (whole room : Bool) (size n : ℕ) → given n ≡ require whole (refused 14) (require room (refused 15) (given size))
+    → Wrote whole room size n
+wrote-by true true size n e = record { sound = refl; fits = refl; count = cc }
+wrote-by true false size n e = zero-not-one cc
+wrote-by false room size n e = zero-not-one cc
 
 module _ (c : Chart) (before after : List ℕ) (n : ℕ) (w : Writes c before after (Done n)) where
-  pub written-facts : (soundChart c ≡ true) × ((hasRoom (stateOf c) before ≡ true) × (n ≡ length (storedForm (stateOf c))))
+  pub written-facts : Wrote (soundChart c) (formFits (stateOf c) before) (length (storedForm (stateOf c))) n
   unfolding writeSays answerToWrite writing
-  written-facts = wrote-by (soundChart c) (hasRoom (stateOf c) before) (length (storedForm (stateOf c))) n (w .says)
+  written-facts = wrote-by (soundChart c) (formFits (stateOf c) before) (length (storedForm (stateOf c))) n (w .says)
 
   pub written-sound : soundChart c ≡ true
-  written-sound = written-facts .0
+  written-sound = written-facts .sound
+
+  pub written-placed : Placed before 0 (storedForm (stateOf c)) after n
+  unfolding bufferAfterWrite bufferAfter atFront
+  written-placed =
+      record { buffer = rw (written-facts .sound, written-facts .fits) at (w .buffer); place = omega (arith, written-facts .count) }
 
   pub written-after : after ≡ storedForm (stateOf c) ++ drop (length (storedForm (stateOf c))) before
-  unfolding bufferAfterWrite bufferAfter
-  written-after = rw (written-facts .0, written-facts .1 .0) at (w .buffer)
+  written-after = front-buffer written-placed
 
   -- the buffer has at least as many bytes as were written, and these are the form
   pub written-fits : n ≤ length after
-  written-fits =
-      let f = storedForm (stateOf c) in
-      omega (arith, written-facts .1 .1, ap length written-after, length-append f (drop (length f) before))
+  written-fits = front-fits written-placed
 
   pub written-count : n ≡ length (take n after)
-  written-count = sym (length-take-le n after written-fits)
+  written-count = front-counted written-placed
 
   pub written-form : take n after ≡ storedForm (stateOf c)
-  written-form = ap (take n) written-after ∙ take-at (storedForm (stateOf c)) _ n (sym (written-facts .1 .1))
+  written-form = front-is written-placed
 
   -- reading them gives the chart again
   pub returned : length (c .base) ≡ baseMost → length (c .series) ≡ seriesMost
       → (r : ReadChart) → IsRead (reading (take n after)) r → Returns c before after r
   unfolding chartReturned answerToReturn chartAfterReading
   returned base series r is =
-      let g = given c base series (written-facts .0) in
-      let read : reading (take n after) ≡ taken (stateOf c) = ap reading written-form ∙ read-stored (stateOf c) (g .facts .state) in
+      let facts = written-facts in
+      let g = state.given c base series (facts .sound) in
+      let read : reading (take n after) ≡ given (stateOf c) = ap reading written-form ∙ read-stored (stateOf c) (g .facts .state) in
       record {
-        chart = rw (written-facts .0, written-facts .1 .0) (is .chart ∙ (ap chartAfterReading read ∙ chart-of-state c g));
-        says = rw (written-facts .0, written-facts .1 .0) (is .says ∙ read);
+        chart = rw (facts .sound, facts .fits) (is .chart ∙ (ap chartAfterReading read ∙ chart-of-state c g));
+        says = rw (facts .sound, facts .fits) (is .says ∙ read);
         buffer = w .buffer;
       }
 
 -- ---- writing that was refused
 
-same : {n m : ℕ} → form.refused n ≡ form.refused m → n ≡ m
-same e = cc
-
 refused-by : (whole room : Bool) (size n : ℕ) (s : State)
-    → form.refused n ≡ require whole (form.refused 14) (require room (form.refused 15) (wrote size))
-    → (refused n ≡ require whole (refused 14) (require room (refused 15) (taken s))) × ((whole && room) ≡ false)
-refused-by true true size n s e = let z : _≡_ {A = ℕ} 0 1 = cc in absurd (omega arith)
-refused-by true false size n s e = (ap refused (same e), refl)
-refused-by false room size n s e = (ap refused (same e), refl)
+    → refused n ≡ require whole (refused 14) (require room (refused 15) (given size))
+    → (refused n ≡ require whole (refused 14) (require room (refused 15) (given s))) × ((whole && room) ≡ false)
+refused-by true true size n s e = given-not-refused (sym e)
+refused-by true false size n s e = (ap refused (same-refused e), refl)
+refused-by false room size n s e = (ap refused (same-refused e), refl)
 
 -- the answer is the number of the refusal, with the chart of zeros
 pub not-written : (c : Chart) (before after : List ℕ) (n : ℕ) → Writes c before after (Refused n)
@@ -90,21 +101,21 @@ pub not-written : (c : Chart) (before after : List ℕ) (n : ℕ) → Writes c b
 unfolding writeSays answerToWrite writing chartReturned answerToReturn chartAfterReading
 not-written c before after n w r is =
     let size = length (storedForm (stateOf c)) in
-    let facts = refused-by (soundChart c) (hasRoom (stateOf c) before) size n (stateOf c) (w .says) in
-    record { chart = rw (facts .1) (is .chart); says = is .says ∙ facts .0; buffer = w .buffer }
+    let (said, none-written) = refused-by (soundChart c) (formFits (stateOf c) before) size n (stateOf c) (w .says) in
+    record { chart = rw none-written (is .chart); says = is .says ∙ said; buffer = w .buffer }
 
 -- ---- writing and reading back, for charts. `Given` says that a chart is sound and that its arrays are as long as its type says
 
 -- reading a sound chart's stored form gives that chart, and is not refused
 pub read-written : (c : Chart) → Given c → (r : ReadChart) → IsRead (reading (storedForm (stateOf c))) r
-    → (r .chart ≡ c) × (readSays (r .chart) (r .answer) ≡ taken (stateOf c))
+    → (r .chart ≡ c) × (readSays (r .chart) (r .answer) ≡ given (stateOf c))
 unfolding chartAfterReading
 read-written c g r is =
     let read = read-stored (stateOf c) (g .facts .state) in
     (is .chart ∙ (ap chartAfterReading read ∙ chart-of-state c g), is .says ∙ read)
 
 -- a chart that was read is sound, so writing it is not refused with 14. If the buffer has room, writing gives the bytes that were read
-module _ (bytes : List ℕ) (are : AreBytes bytes) (s : State) (e : reading bytes ≡ taken s)
+module _ (bytes : List ℕ) (are : AreBytes bytes) (s : State) (e : reading bytes ≡ given s)
     (r : ReadChart) (is : IsRead (reading bytes) r) where
   chart-is : r .chart ≡ chartOf s
   unfolding chartAfterReading
@@ -124,5 +135,5 @@ one-chart c d g h e =
     sym (chart-of-state c g) ∙ (ap chartOf (one-form (stateOf c) (stateOf d) (g .facts .state) (h .facts .state) e) ∙ chart-of-state d h)
 
 -- every list of calls on a chart that reading gives
-pub read-runs : (bytes : List ℕ) (s : State) → reading bytes ≡ taken s → (calls : List Call) → Runs s calls
+pub read-runs : (bytes : List ℕ) (s : State) → reading bytes ≡ given s → (calls : List Call) → Runs s calls
 read-runs bytes s e calls = sound-runs s calls (read-sound bytes s e)

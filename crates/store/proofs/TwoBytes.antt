@@ -1,23 +1,24 @@
 -- Laws of numbers in two bytes, as the code makes them: a word's number (`bits-are`), a number's word (`word-is`), the number at a byte
--- (`number-is`), words put one after the other (`words-put`, `words-then`), a record put in parts (`record-placed`).
+-- (`number-is`), a number put by two stores (`placed-number`), words put one after the other (`words-put`, `words-then`), a record put in
+-- parts (`record-placed`).
 use mathlib.Core.Path.{_≡_, refl, _∙_}
 use mathlib.Core.List.{List, [], _∷_, map, map-append}
-use Prim.Native.Nat.{ℕ, suc, _+_, _*_, _-_, _<_, _≤_}
+use Prim.Native.Nat.{ℕ, suc, _+_, _*_, _-_, _/_, _%_, _<_, _≤_}
 use native.Mathlib.Omega.{arith}
 use native.Mathlib.Numerals.{add-one}
-use lib.ListN.{length, take, drop, getD, length-map, length-take}
+use lib.ListN.{length, take, drop, getD, set, length-map, length-take, length-set}
 use lib.Seq.{take-suc, getD-drop}
 use lib.IntN.{ℤ, pos, negsuc}
 use lib.Dec.{ltb}
 use mir.Syntax.{w16}
 use mir.Val.{toZ, ofZ}
-use Rattle.guide.specs.Bytes.{bytesOf, numberIn, numberOf, wordOf}
-use Rattle.guide.specs.StoredForm.{recordOf}
-use Rattle.guide.proofs.Booleans.{by-test}
-use Rattle.guide.proofs.Bytes.{length-bytes, bytes-joined}
-use Rattle.store.specs.Placed.{Placed}
+use Rattle.rules.specs.Bytes.{bytesOf, numberIn, numberOf, wordOf}
+use Rattle.rules.specs.StoredForm.{recordOf}
+use Rattle.rules.proofs.Booleans.{by-test}
+use Rattle.rules.proofs.Bytes.{length-bytes, bytes-joined}
+use Rattle.rules.proofs.Buffer.{placed-one, placed-then, placed-length}
+use Rattle.rules.specs.Buffer.{Placed}
 use Rattle.store.specs.Store.{recordSize}
-use Rattle.store.proofs.Placed.{placed-then, placed-length}
 
 -- ---- words and their numbers
 
@@ -45,7 +46,20 @@ number-is bytes at =
     let here : at + 0 ≡ at = omega arith in
     rw (getD-drop at bytes 0 0, getD-drop at bytes 1 0, here)
 
--- ---- words that are put into a buffer
+-- ---- numbers that are put into a buffer
+
+-- a number put by two stores
+pub placed-number : (buffer : List ℕ) (at n : ℕ) → at + 2 ≤ length buffer
+    → Placed buffer at (bytesOf (n ∷ [])) (set (set buffer at (n % 256)) (at + 1) (n / 256)) (at + 2)
+unfolding bytesOf
+placed-number buffer at n room =
+    let lower = n % 256 in
+    let upper = n / 256 in
+    let next : at + 1 < length (set buffer at lower) = simp length-set (omega arith) in
+    let end : at + 1 + 1 ≡ at + 2 = omega arith in
+    rw end
+    at (placed-then (lower ∷ []) (upper ∷ []) (omega arith) (placed-one buffer at lower (omega arith))
+    (placed-one (set buffer at lower) (at + 1) upper next))
 
 -- the place after i words that are put from `at` on, and the buffer's length
 pub record WordsPut (before : List ℕ) (at i : ℕ) (after : List ℕ) (next : ℕ) : Type 0 where
@@ -83,7 +97,7 @@ pub record-placed : {before one two after : List ℕ} {at second third end : ℕ
     → at + recordSize (length words) ≤ length before → Placed before at (bytesOf ((2 + 2 * length words) ∷ [])) one second
     → Placed one second (bytesOf (kind ∷ [])) two third → Placed two third (bytesOf (map numberOf words)) after end
     → Placed before at (recordOf kind (map numberOf words)) after end
-unfolding recordOf bytesOf recordSize
+unfolding recordOf bytesOf
 record-placed kind words room length-put kind-put words-put =
     let numbers = map numberOf words in
     let size = 2 + 2 * length words in

@@ -1,5 +1,5 @@
--- Laws of writing: the stored form's size (`form-size`), its three records one after the other (`form-placed`), and writing's contract in
--- each of its cases (`write-unsound`, `write-short`, `write-done`).
+-- Laws of writing: the stored form's size (`form-size`, `form-within`), its three records one after the other (`form-placed`), and
+-- writing's contract in each of its cases (`write-unsound`, `write-short`, `write-done`).
 use mathlib.Core.Path.{_≡_, ap, _∙_}
 use mathlib.Core.Bool.{true, false}
 use mathlib.Core.List.{List, _++_, map, append-assoc}
@@ -12,19 +12,22 @@ use mir.Syntax.{w16}
 use mir.Val.{SFits, toZ, ofZ}
 use mir.ValLaws.{toZ-ofZ}
 use borrow.Author.Tests.{le-leb, lt-leb}
-use Rattle.guide.specs.State.{State}
-use Rattle.guide.specs.Bytes.{numberOf, wordOf}
-use Rattle.guide.specs.StoredForm.{recordOf, headNumbers, storedForm, wrote, hasRoom, writing, bufferAfter}
-use Rattle.guide.proofs.Bytes.{number-back}
-use Rattle.guide.proofs.Reading.{length-record, length-form}
+use Rattle.rules.specs.Outcome.{given}
+use Rattle.rules.specs.State.{State}
+use Rattle.rules.specs.Soundness.{sound}
+use Rattle.rules.specs.Bytes.{numberOf, wordOf}
+use Rattle.rules.specs.StoredForm.{recordOf, headNumbers, storedForm, formFits, writing, bufferAfter}
+use Rattle.rules.specs.Buffer.{Placed, atFront}
+use Rattle.rules.proofs.Bytes.{number-back}
+use Rattle.rules.proofs.Buffer.{placed-then}
+use Rattle.rules.proofs.ReadForm.{length-record, length-form}
+use Rattle.rules.proofs.Soundness.{sound-facts}
 use Rattle.chart.specs.declared.Chart.{Chart}
 use Rattle.chart.specs.Chart.{stateOf}
 use Rattle.chart.specs.Soundness.{soundChart}
 use Rattle.chart.proofs.State.{Given, base-count, series-count}
-use Rattle.store.specs.Placed.{Placed}
-use Rattle.store.specs.Store.{recordSize, formSize, writeSays, answerToWrite, bufferAfterWrite, Writes}
+use Rattle.store.specs.Store.{formSize, formMost, writeSays, answerToWrite, bufferAfterWrite, Writes}
 use Rattle.store.specs.declared.WriteAnswer.the-variants.{Done, Refused}
-use Rattle.store.proofs.Placed.{placed-then, placed-front}
 
 -- the words that stand for the first record's numbers give these numbers back
 pub head-number : {r : ℤ} {k : ℕ} → SFits w16 r → k < 65536 → r ≡ wordOf k → numberOf (toZ w16 (ofZ w16 r)) ≡ k
@@ -32,17 +35,21 @@ head-number {r} {k} fits small is = ap numberOf (toZ-ofZ w16 r fits ∙ is) ∙ 
 
 -- ---- the form of a sound chart
 
+-- no form is longer than the longest
+pub form-within : (s : State) → sound s ≡ true → length (storedForm s) ≤ formMost
+form-within s t = let facts = sound-facts s t in omega (arith, length-form s, facts .base-most, facts .series-most)
+
 module _ (c : Chart) (g : Given c) where
   pub form-size : length (storedForm (stateOf c)) ≡ formSize (c .«base_len») (c .«series_len»)
-  unfolding formSize recordSize stateOf
+  unfolding stateOf
   form-size = omega (arith, length-form (stateOf c), base-count c (g .within), series-count c (g .within))
 
-  room : (buffer : List ℕ) → formSize (c .«base_len») (c .«series_len») ≤ length buffer → hasRoom (stateOf c) buffer ≡ true
-  unfolding hasRoom
+  room : (buffer : List ℕ) → formSize (c .«base_len») (c .«series_len») ≤ length buffer → formFits (stateOf c) buffer ≡ true
+  unfolding formFits
   room buffer h = le-leb (length (storedForm (stateOf c))) (length buffer) (omega (arith, form-size))
 
-  no-room : (buffer : List ℕ) → length buffer < formSize (c .«base_len») (c .«series_len») → hasRoom (stateOf c) buffer ≡ false
-  unfolding hasRoom
+  no-room : (buffer : List ℕ) → length buffer < formSize (c .«base_len») (c .«series_len») → formFits (stateOf c) buffer ≡ false
+  unfolding formFits
   no-room buffer h = lt-leb (length (storedForm (stateOf c))) (length buffer) (omega (arith, form-size))
 
   -- ---- writing a sound chart
@@ -54,12 +61,12 @@ module _ (c : Chart) (g : Given c) where
 
   pub write-done : (buffer after : List ℕ) (n : ℕ) → soundChart c ≡ true → formSize (c .«base_len») (c .«series_len») ≤ length buffer
       → Placed buffer 0 (storedForm (stateOf c)) after n → Writes c buffer after (Done n)
-  unfolding writeSays answerToWrite bufferAfterWrite writing bufferAfter
+  unfolding writeSays answerToWrite bufferAfterWrite writing bufferAfter atFront
   write-done buffer after n t h placed =
       let form = storedForm (stateOf c) in
       record {
-        says = rw (t, room buffer h) (ap wrote (placed .place ∙ zero-add (length form)));
-        buffer = rw (t, room buffer h) (placed-front form placed);
+        says = rw (t, room buffer h) (ap given (placed .place ∙ zero-add (length form)));
+        buffer = rw (t, room buffer h) (placed .buffer);
       }
 
 pub write-unsound : (c : Chart) (buffer : List ℕ) → soundChart c ≡ false → Writes c buffer buffer (Refused 14)

@@ -1,3 +1,3 @@
-pub mod Placed
 pub mod Records
 pub mod Store
+pub mod HeldChart

@@ -1,11 +1,12 @@
--- What the functions that look for records give. They apply the definitions of `guide/specs/Reading` to the bytes from a given byte on.
-use mathlib.Core.List.{List, _++_, map}
+-- What the functions that look for records give. They apply the definitions of `rules/specs/ReadForm` to the bytes from a given byte on.
+use mathlib.Core.List.{List, map}
 use Prim.Native.Nat.{ℕ, _+_, _*_, _≤_}
 use lib.ListN.{length, drop}
 use lib.IntN.{ℤ}
-use Rattle.guide.specs.Choice.{choose}
-use Rattle.guide.specs.Bytes.{numbersIn, wordOf}
-use Rattle.guide.specs.Reading.{lengthIn, recordKindIn, countIn, isRecord, startsWith, isForm}
+use Rattle.rules.specs.Choice.{choose}
+use Rattle.rules.specs.Bytes.{numbersIn, wordOf}
+use Rattle.rules.specs.Buffer.{atFront}
+use Rattle.rules.specs.ReadForm.{lengthIn, recordKindIn, countIn, isRecord, startsWith, isForm}
 use Rattle.store.specs.declared.reader.Seen.{Seen}
 use Rattle.store.specs.declared.reader.Seen.the-variants as seen
 use Rattle.store.specs.declared.records.Place.{Place}
@@ -50,6 +51,10 @@ numbersAt bytes p = numbersIn (p .count) (drop (p .first) bytes)
 pub record LiesWithin (bytes : List ℕ) (p : Place) : Type 0 where
   pub enough : p .first + 2 * p .count ≤ length bytes
 
+-- the words of the record at a place
+unfoldable pub wordsAt : List ℕ → Place → List ℤ
+wordsAt bytes p = map wordOf (numbersAt bytes p)
+
 -- an array with the words of the record in its first places. The places after them do not change
 unfoldable pub filledFrom : List ℕ → Place → List ℤ → List ℤ
-filledFrom bytes p before = map wordOf (numbersAt bytes p) ++ drop (p .count) before
+filledFrom bytes p before = atFront (wordsAt bytes p) before

@@ -3,10 +3,12 @@ use mathlib.Core.Path.{_≡_}
 use mathlib.Core.Bool.{_&&_}
 use mathlib.Core.List.{List}
 use Prim.Native.Nat.{ℕ, _+_, _*_}
-use Rattle.guide.specs.Choice.{require, choose}
-use Rattle.guide.specs.StoredForm.{WritingAnswer, wrote, hasRoom, writing, bufferAfter}
-use Rattle.guide.specs.StoredForm as form
-use Rattle.guide.specs.Reading.{ReadingAnswer, taken, refused, headCount}
+use Rattle.rules.specs.Outcome.{Outcome, given, refused}
+use Rattle.rules.specs.Choice.{require, choose}
+use Rattle.rules.specs.Sizes.{baseMost, seriesMost}
+use Rattle.rules.specs.State.{State}
+use Rattle.rules.specs.StoredForm.{formFits, writing, bufferAfter}
+use Rattle.rules.specs.ReadForm.{headCount}
 use Rattle.chart.specs.declared.Chart.{Chart}
 use Rattle.chart.specs.Chart.{stateOf, chartOf, zeroChart}
 use Rattle.chart.specs.Soundness.{soundChart}
@@ -17,22 +19,26 @@ use Rattle.store.specs.declared.ReadAnswer.the-variants as read
 use Rattle.store.specs.declared.ReadChart.{ReadChart}
 
 -- the number of bytes of a record of n numbers: its length, its record kind and the numbers
-unfoldable pub recordSize : ℕ → ℕ
+abbrev pub recordSize : ℕ → ℕ
 recordSize n = 4 + 2 * n
 
 -- the number of bytes of a stored form with n base words and m series words
-unfoldable pub formSize : ℕ → ℕ → ℕ
+abbrev pub formSize : ℕ → ℕ → ℕ
 formSize n m = recordSize headCount + recordSize n + recordSize m
+
+-- the number of bytes of the longest stored form
+abbrev pub formMost : ℕ
+formMost = formSize baseMost seriesMost
 
 -- ---- writing
 
-unfoldable pub writeSays : WriteAnswer → WritingAnswer
-writeSays (write.Done n) = wrote n
-writeSays (write.Refused n) = form.refused n
+unfoldable pub writeSays : WriteAnswer → Outcome ℕ
+writeSays (write.Done n) = given n
+writeSays (write.Refused n) = refused n
 
 -- 14 "a chart value handed in: not sound" comes first
-unfoldable pub answerToWrite : Chart → List ℕ → WritingAnswer
-answerToWrite c buffer = require (soundChart c) (form.refused 14) (writing (stateOf c) buffer)
+unfoldable pub answerToWrite : Chart → List ℕ → Outcome ℕ
+answerToWrite c buffer = require (soundChart c) (refused 14) (writing (stateOf c) buffer)
 
 -- the buffer after writing. A refusal, with 14 or 15, does not change it
 unfoldable pub bufferAfterWrite : Chart → List ℕ → List ℕ
@@ -46,33 +52,33 @@ pub record Writes (c : Chart) (before after : List ℕ) (r : WriteAnswer) : Type
 -- ---- reading
 
 -- what an answer and the chart that comes with it say
-unfoldable pub readSays : Chart → ReadAnswer → ReadingAnswer
-readSays c read.Done = taken (stateOf c)
+unfoldable pub readSays : Chart → ReadAnswer → Outcome State
+readSays c read.Done = given (stateOf c)
 readSays c (read.Refused n) = refused n
 
 -- the chart that goes with reading's answer: "a refused build or read gives a chart of zeros"
-unfoldable pub chartAfterReading : ReadingAnswer → Chart
-chartAfterReading (taken s) = chartOf s
+unfoldable pub chartAfterReading : Outcome State → Chart
+chartAfterReading (given s) = chartOf s
 chartAfterReading (refused n) = zeroChart
 
 -- r says what the answer a says, and its chart is the one that goes with a. In the contract of reading, a is the answer that
--- `Reading.reading` gives for the bytes
-pub record IsRead (a : ReadingAnswer) (r : ReadChart) : Type 0 where
+-- `ReadForm.reading` gives for the bytes
+pub record IsRead (a : Outcome State) (r : ReadChart) : Type 0 where
   pub chart : r .chart ≡ chartAfterReading a
   pub says : readSays (r .chart) (r .answer) ≡ a
 
 -- ---- writing, and then reading the bytes that were written
 
 -- writing refuses with 14 or 15. If the chart is sound and the buffer has room for it, the answer is the chart as it was
-unfoldable pub answerToReturn : Chart → List ℕ → ReadingAnswer
+unfoldable pub answerToReturn : Chart → List ℕ → Outcome State
 answerToReturn c buffer =
     require (soundChart c) (refused 14)
-    (require (hasRoom (stateOf c) buffer) (refused 15)
-    (taken (stateOf c)))
+    (require (formFits (stateOf c) buffer) (refused 15)
+    (given (stateOf c)))
 
 -- the same chart, or the chart of zeros if writing refuses
 unfoldable pub chartReturned : Chart → List ℕ → Chart
-chartReturned c buffer = choose (soundChart c && hasRoom (stateOf c) buffer) c zeroChart
+chartReturned c buffer = choose (soundChart c && formFits (stateOf c) buffer) c zeroChart
 
 -- the contract of writing and reading back: the chart, the answer, and every byte of the buffer
 pub record Returns (c : Chart) (before after : List ℕ) (r : ReadChart) : Type 0 where

@@ -4,6 +4,7 @@
 // Writing refuses, in this order: a chart that is not sound, with 14; a buffer shorter than the stored form, with 15. A refused write does
 // not change the buffer. Reading refuses, in this order: bytes that are not the three records, with 13; a chart that is not sound, with 14.
 // It decides 13 before it tests any content. A refused read gives the chart of zeros.
+pub mod held;
 mod numbers;
 mod reader;
 mod records;
@@ -12,23 +13,24 @@ use chart::Chart;
 use chart::soundness::is_sound;
 use chart::zero_chart;
 use numbers::word_of;
+use reader::BEFORE_NUMBERS;
 use reader::Cursor;
 use records::Found;
 use records::Place;
 use records::find_record;
 use records::nth_number;
 use records::put_record;
-use records::record_size;
 ghost use mathlib.Core.Path.{_≡_};
 ghost use mathlib.Core.Bool.{true};
 ghost use Prim.Native.Nat.{_≤_};
 ghost use lib.ListN.{length};
-ghost use Rattle.guide.specs.Sizes.{baseMost, seriesMost};
-ghost use Rattle.guide.specs.StoredForm.{storedForm};
-ghost use Rattle.guide.specs.Reading.{reading, refused};
+ghost use Rattle.rules.specs.Outcome.{refused};
+ghost use Rattle.rules.specs.Sizes.{baseMost, seriesMost};
+ghost use Rattle.rules.specs.StoredForm.{storedForm};
+ghost use Rattle.rules.specs.ReadForm.{reading};
 ghost use Rattle.chart.specs.Chart.{stateOf};
 ghost use Rattle.chart.specs.Soundness.{soundChart};
-ghost use Rattle.store.specs.Placed.{Placed};
+ghost use Rattle.rules.specs.Buffer.{Placed};
 ghost use Rattle.store.specs.Records.{layoutOf, LiesWithin, filledFrom};
 ghost use Rattle.store.specs.Store.{Writes, IsRead, Returns, formSize};
 ghost use Rattle.store.specs.declared.Layout.the-variants as layout;
@@ -69,6 +71,11 @@ const SERIES_KIND: u16 = 3;
 
 // How many numbers the first record has: chart kind, status, open verdict.
 const HEAD_COUNT: usize = 3;
+
+// The number of bytes of the longest stored form: three records with as many words as they may have. A buffer of that many bytes has room
+// for every chart.
+pub const FORM_MOST: usize = 3 * BEFORE_NUMBERS
+    + 2 * (HEAD_COUNT + Chart::BASE_MOST + Chart::SERIES_MOST);
 
 // Writes the stored form to the front of the buffer. The bytes after it do not change.
 pub fn write(chart: Chart, out: &mut [u8]) -> WriteAnswer
@@ -120,7 +127,7 @@ fn form_size(n: usize, m: usize) -> usize
     requires { ⌜ (n ≤ baseMost) × (m ≤ seriesMost) ⌝ }
     ensures { λ r. ⌜ r ≡ formSize n m ⌝ }
 {
-    record_size(HEAD_COUNT) + record_size(n) + record_size(m)
+    3 * BEFORE_NUMBERS + 2 * (HEAD_COUNT + n + m)
 }
 
 // Puts the stored form of a sound chart at the front of a buffer that has room for it. Answers its number of bytes. The numbers of the

@@ -3,8 +3,8 @@ ghost use mathlib.Core.Path.{_≡_};
 ghost use mathlib.Core.List.{[], _∷_, map};
 ghost use Prim.Native.Nat.{_+_, _*_, _≤_};
 ghost use lib.ListN.{length, drop};
-ghost use Rattle.guide.specs.Bytes.{bytesOf, numberIn, numberOf, wordOf};
-ghost use Rattle.store.specs.Placed.{Placed};
+ghost use Rattle.rules.specs.Bytes.{bytesOf, numberIn, numberOf, wordOf};
+ghost use Rattle.rules.specs.Buffer.{Placed};
 
 // The number that stands for a word. For a word w below 0, `!w` is −w − 1, which is not below 0.
 pub fn number_of(w: i16) -> u16
@@ -51,7 +51,7 @@ pub fn put_number(out: &mut [u8], at: usize, n: u16) -> usize
 }
 
 // Puts words into the buffer, one after the other, from a byte on. Answers the byte after them.
-pub fn put_words(out: &mut [u8], at: usize, words: &[i16]) -> usize
+pub fn put_word_numbers(out: &mut [u8], at: usize, words: &[i16]) -> usize
     requires { ⌜ at + 2 * length (now words) ≤ length (now out) ⌝ }
     ensures { λ r. ⌜ Placed (now (out .entry)) at (bytesOf (map numberOf (now (words .entry)))) (now (out .exit)) r ⌝ }
 {

@@ -1,7 +1,7 @@
 // Records: a length (the bytes after the length itself), a record kind, and numbers.
 use crate::numbers::number_at;
 use crate::numbers::put_number;
-use crate::numbers::put_words;
+use crate::numbers::put_word_numbers;
 use crate::reader::BEFORE_NUMBERS;
 use crate::reader::Cursor;
 use crate::reader::Seen;
@@ -10,10 +10,10 @@ ghost use mathlib.Core.Path.{_≡_};
 ghost use mathlib.Core.List.{map};
 ghost use Prim.Native.Nat.{_+_, _≤_, _<_};
 ghost use lib.ListN.{length, getD};
-ghost use Rattle.guide.specs.Sizes.{seriesMost};
-ghost use Rattle.guide.specs.Bytes.{numberOf};
-ghost use Rattle.guide.specs.StoredForm.{recordOf};
-ghost use Rattle.store.specs.Placed.{Placed};
+ghost use Rattle.rules.specs.Sizes.{seriesMost};
+ghost use Rattle.rules.specs.Bytes.{numberOf};
+ghost use Rattle.rules.specs.StoredForm.{recordOf};
+ghost use Rattle.rules.specs.Buffer.{Placed};
 ghost use Rattle.store.specs.Records.{recordAt, numbersAt, LiesWithin};
 ghost use Rattle.store.specs.Store.{recordSize};
 
@@ -30,14 +30,6 @@ pub enum Found {
     Nothing,
 }
 
-// The number of bytes of a record of n numbers.
-pub fn record_size(n: usize) -> usize
-    requires { ⌜ n ≤ seriesMost ⌝ }
-    ensures { λ r. ⌜ r ≡ recordSize n ⌝ }
-{
-    BEFORE_NUMBERS + 2 * n
-}
-
 // Puts a record of words into the buffer from a byte on. Answers the byte after it.
 pub fn put_record(out: &mut [u8], at: usize, record_kind: u16, words: &[i16]) -> usize
     requires { ⌜ (length (now words) ≤ seriesMost) × (at + recordSize (length (now words)) ≤ length (now out)) ⌝ }
@@ -46,7 +38,7 @@ pub fn put_record(out: &mut [u8], at: usize, record_kind: u16, words: &[i16]) ->
     let length = 2 + 2 * words.len();
     let at_kind = put_number(out, at, length as u16);
     let at_words = put_number(out, at_kind, record_kind);
-    put_words(out, at_words, words)
+    put_word_numbers(out, at_words, words)
 }
 
 // The record at the cursor, if it has this record kind and from `least` to `most` numbers.

@@ -1,3 +1,2 @@
--- Laws of the texts: the numbers that no arm names, and the lengths.
-mod Others
+-- Laws of the texts: their lengths.
 pub mod Lengths

@@ -7,18 +7,23 @@ use lib.Dec.{T, ltb, leb}
 use lib.IntN.{ℤ, pos, negsuc, natAbs, _-ℤ_, _*ℤ_}
 use lib.Signed.{nonNeg, ltZ}
 use borrow.Author.Tests.{leb-true, le-ltb, eq-eqb, ne-eqb}
-use Rattle.guide.specs.Kind.{ignoresThird}
-use Rattle.guide.specs.Word.{readingMost, isReading, areReadings, numerator, divisor}
-use Rattle.guide.proofs.Booleans.{both}
-use Rattle.guide.proofs.Integers.{distance, of-pos, minus, times, magnitude, magnitude-times, is-below}
+use Rattle.rules.specs.Kind.{ignoresThird}
+use Rattle.rules.specs.Word.{readingMost, isReading, areReadings, numerator, divisor}
+use Rattle.rules.proofs.Booleans.{both}
+use Rattle.rules.proofs.Integers.{distance, of-pos, minus, times, magnitude, magnitude-times, is-below}
 use Rattle.words.specs.declared.Quotient.{Quotient}
 use Rattle.words.specs.Formed.{signed, ReadingIs, IsQuotient}
 
 -- ---- readings
 
-pub reading-natural : (x : ℤ) → isReading x ≡ true → T (nonNeg x) × (natAbs x ≤ readingMost)
+-- a reading is a natural number, and not too large
+pub record IsNatural (x : ℤ) : Type 0 where
+  pub natural : T (nonNeg x)
+  pub small : natAbs x ≤ readingMost
+
+pub reading-natural : (x : ℤ) → isReading x ≡ true → IsNatural x
 unfolding isReading
-reading-natural (pos n) h = (tt, leb-true n readingMost (both (leb 0 n) (leb n readingMost) h .1))
+reading-natural (pos n) h = record { natural = tt; small = leb-true n readingMost (both (leb 0 n) (leb n readingMost) h .1) }
 reading-natural (negsuc n) h = absurd (false≢true h)
 
 -- what `areReadings` says

@@ -9,11 +9,11 @@ use extremes::extremes_of;
 ghost use mathlib.Core.Path.{_≡_};
 ghost use mathlib.Core.Bool.{true};
 ghost use Prim.Native.Nat.{_+_, _-_, _^_, _≤_, _<_};
-ghost use Rattle.guide.specs.Kind.{isKind, inRange};
-ghost use Rattle.guide.specs.Building.{allInRange};
-ghost use Rattle.guide.specs.Machine.{wordFor};
-ghost use Rattle.guide.specs.Word.{isReading, areReadings, nearestNatural, fromReading, wordAlone};
-ghost use Rattle.guide.specs.Word as guide;
+ghost use Rattle.rules.specs.Kind.{isKind, inRange};
+ghost use Rattle.rules.specs.Building.{allInRange};
+ghost use Rattle.rules.specs.Machine.{wordFor};
+ghost use Rattle.rules.specs.Word.{isReading, areReadings, nearestNatural, fromReading, wordAlone};
+ghost use Rattle.rules.specs.Word as rules;
 ghost use Rattle.words.specs.Formed.{formedSays, signed, ReadingIs, IsQuotient};
 
 // The range of words; for kind 1 it starts at 0.
@@ -164,7 +164,7 @@ fn distance_of(x: u64, y: u64) -> u64
 // The nearest whole number, halves to the even one.
 fn nearest(q: Quotient) -> i64
     requires { ⌜ (0 < q .divisor) × (q .numerator < 2 ^ 63) ⌝ }
-    ensures { λ r. ⌜ r ≡ guide.nearest (signed (q .negative) (q .numerator)) (q .divisor) ⌝ }
+    ensures { λ r. ⌜ r ≡ rules.nearest (signed (q .negative) (q .numerator)) (q .divisor) ⌝ }
 {
     let w = nearest_natural(q.numerator, q.divisor) as i64;
     if q.negative { -w } else { w }

@@ -4,10 +4,10 @@ use mathlib.Core.Bool.{true}
 use borrow.Author.Needs.{needs}
 use denote.Ref.{now}
 use mir.Facts.{toZ-ofZ}
-use Rattle.guide.specs.Reading.{reading}
-use Rattle.guide.proofs.Booleans.{answered-no, answered-yes}
+use Rattle.rules.specs.Lists.{bytesStart}
+use Rattle.rules.proofs.Booleans.{answered-no, answered-yes}
 use Rattle.chart_c.specs.Plotting.{isWord}
-use Rattle.chart_c.proofs.Held.{Taken, is-reading, held-taken}
+use Rattle.chart_c.proofs.Held.{Taken, from-bytes, held-taken}
 use Rattle.chart_c.proofs.Drawn.{not-compared, no-word, no-room, beyond-put, word-fits}
 use Rattle.chart_c.proofs.control_chart_against_lines.Statement.{statement}
 use Rattle.chart_c.proofs.control_chart_against_lines.Tie as tie
@@ -20,11 +20,11 @@ returns c = let held = c .before .before .held-in in not-compared _ (held .resul
 
 -- the chart that was read
 taken : (c : tie.Else1) → let held = c .before .before in
-    Taken (reading (now (held .before .before .before .args .chart))) (held .held-in .result .chart)
+    Taken (bytesStart (now (held .before .before .before .args .chart))) (held .held-in .result .chart)
 taken c =
     let held = c .before .before in
     let bytes = now (held .before .before .before .args .chart) in
-    held-taken _ (is-reading bytes) (held .held-in .result) (held .held-in .ensures) (c .if1 .left)
+    held-taken _ (from-bytes bytes) (held .held-in .result) (held .held-in .ensures) (c .if1 .left)
 
 is-word-requires : tie.Need-is-word-requires
 is-word-requires c κs = search needs

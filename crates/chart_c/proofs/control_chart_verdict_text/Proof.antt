@@ -1,6 +1,7 @@
 -- `chart_c::control_chart_verdict_text` meets its contract.
 use mathlib.Core.Path.{refl}
 use borrow.Author.Needs.{needs}
+use Rattle.rules.proofs.Buffer.{front-fits, front-counted}
 use Rattle.texts.proofs.Lengths.{verdict-short}
 use Rattle.chart_c.proofs.Texts.{shown, string-of}
 use Rattle.chart_c.proofs.control_chart_verdict_text.Statement.{statement}
@@ -13,10 +14,10 @@ put-verdict-meaning-requires : tie.Need-put-verdict-meaning-requires
 put-verdict-meaning-requires c κs = search needs
 
 array-share-prefix-meaning : tie.Need-array-share-prefix-meaning
-array-share-prefix-meaning c = shown _ (verdict-short _) refl (c .before .put-verdict-meaning .ensures) .fits
+array-share-prefix-meaning c = front-fits (shown _ (verdict-short _) refl (c .before .put-verdict-meaning .ensures))
 
 slice-aggregate-put-string : tie.Need-slice-aggregate-put-string
-slice-aggregate-put-string c = shown _ (verdict-short _) refl (c .before .before .put-verdict-meaning .ensures) .counted
+slice-aggregate-put-string c = front-counted (shown _ (verdict-short _) refl (c .before .before .put-verdict-meaning .ensures))
 
 put-string-requires : tie.Need-put-string-requires
 put-string-requires c κs = search needs
@@ -27,7 +28,8 @@ same-length c = search needs
 returns : tie.Need-returns
 returns c =
     let put = c .before .before in
-    string-of (shown _ (verdict-short _) refl (put .before .before .before .before .put-verdict-meaning .ensures)) (put .put-string .ensures)
+    let own = put .before .before .before .before in
+    string-of (shown _ (verdict-short _) refl (own .put-verdict-meaning .ensures)) (put .put-string .ensures)
 
 pub control-chart-verdict-text-spec : {M : Type 1} → statement M
 control-chart-verdict-text-spec =

@@ -1,6 +1,7 @@
 -- `chart_c::control_chart_version` meets its contract.
 use mathlib.Core.Path.{refl}
 use borrow.Author.Needs.{needs}
+use Rattle.rules.proofs.Buffer.{front-fits, front-counted}
 use Rattle.texts.proofs.Lengths.{version-short}
 use Rattle.chart_c.proofs.Texts.{shown, string-of}
 use Rattle.chart_c.proofs.control_chart_version.Statement.{statement}
@@ -13,10 +14,10 @@ put-version-requires : tie.Need-put-version-requires
 put-version-requires c κs = search needs
 
 array-share-prefix-number : tie.Need-array-share-prefix-number
-array-share-prefix-number c = shown _ version-short refl (c .before .put-version .ensures) .fits
+array-share-prefix-number c = front-fits (shown _ version-short refl (c .before .put-version .ensures))
 
 slice-aggregate-put-string : tie.Need-slice-aggregate-put-string
-slice-aggregate-put-string c = shown _ version-short refl (c .before .before .put-version .ensures) .counted
+slice-aggregate-put-string c = front-counted (shown _ version-short refl (c .before .before .put-version .ensures))
 
 put-string-requires : tie.Need-put-string-requires
 put-string-requires c κs = search needs

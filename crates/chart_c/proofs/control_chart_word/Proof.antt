@@ -2,16 +2,16 @@
 use mathlib.Core.Path.{_≡_, refl, sym, ap, _∙_}
 use borrow.Author.Needs.{needs, sfits-of}
 use mir.Facts.{toZ-ofZ}
-use Rattle.guide.specs.Word.{wordAlone}
+use Rattle.rules.specs.Outcome.{given}
+use Rattle.rules.specs.Word.{wordAlone}
 use Rattle.words.specs.Formed.{formedSays}
-use Rattle.chart_c.specs.Outcome.{numberOf, lentAfter}
-use Rattle.chart_c.specs.Calls.{formedOutcome}
+use Rattle.chart_c.specs.Lent.{answeredNumber, lentAfter}
 use Rattle.chart_c.proofs.SameKind.{same-word}
 use Rattle.chart_c.proofs.control_chart_word.Statement.{statement}
 use Rattle.chart_c.proofs.control_chart_word.Tie as tie
 
-kind-of-requires : tie.Need-kind-of-requires
-kind-of-requires c κs = search needs
+kind-passed-requires : tie.Need-kind-passed-requires
+kind-passed-requires c κs = search needs
 
 word-requires : tie.Need-word-requires
 word-requires c κs = search needs
@@ -28,11 +28,11 @@ formed c =
     let start = c .before .before in
     let a = start .args in
     let fits = start .fits in
-    let said = rw (toZ-ofZ (fits .a), toZ-ofZ (fits .b), toZ-ofZ (fits .c), c .before .kind-of .ensures) at (c .word .ensures) in
+    let said = rw (toZ-ofZ (fits .a), toZ-ofZ (fits .b), toZ-ofZ (fits .c), c .before .kind-passed .ensures) at (c .word .ensures) in
     said ∙ same-word (a .kind) (a .a) (a .b) (a .c)
 
 returns : tie.Need-returns
-unfolding formedSays formedOutcome numberOf lentAfter
+unfolding formedSays answeredNumber lentAfter
 returns c =
     let called = c .before .before .before in
     let given = c .before .formed .given in
@@ -40,7 +40,7 @@ returns c =
     rw (toZ-ofZ (sfits-of (c .known-told .given .0 .1)), ← word) (record { answered = refl; of-word = refl })
 
 returns-2 : tie.Need-returns-2
-unfolding formedSays formedOutcome numberOf lentAfter
+unfolding formedSays answeredNumber lentAfter
 returns-2 c =
     let called = c .before .before .before in
     let given = c .before .formed2 .given in
@@ -48,4 +48,4 @@ returns-2 c =
     rw (← word) (record { answered = refl; of-word = refl })
 
 pub control-chart-word-spec : {M : Type 1} → statement M
-control-chart-word-spec = tie.close (tie.spec kind-of-requires word-requires enum-known-formed enum-known-formed-2 returns returns-2)
+control-chart-word-spec = tie.close (tie.spec kind-passed-requires word-requires enum-known-formed enum-known-formed-2 returns returns-2)

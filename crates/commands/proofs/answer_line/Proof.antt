@@ -73,6 +73,9 @@ name-in-requires c κs = search needs
 fault-for-requires : tie.Need-fault-for-requires
 fault-for-requires c κs = search needs
 
+enum-known-found : tie.Need-enum-known-found
+enum-known-found c = search needs
+
 answer-fault-requires-2 : tie.Need-answer-fault-requires-2
 answer-fault-requires-2 c κs = search needs
 
@@ -82,7 +85,8 @@ same-length-2 c = search needs
 returns-4 : tie.Need-returns-4
 returns-4 c =
     let call = c .before .before in
-    let fault = call .before .before .before in
+    let found = call .before .before .before in
+    let fault = found .before .before in
     let named = fault .before in
     let no-comment = named .before .before in
     let at-byte = no-comment .before .before in
@@ -90,7 +94,10 @@ returns-4 c =
     let tested = at-byte .before .before in
     in-full _ (typed (tested .before)) _ _
     (rw (a-fault _ _ _ (tested .if1 .left) field (omega (arith, at-byte .if2 .left)) (ne-eqb _ _ (no-comment .if3 .left)) _
-    (named .name-in .ensures) _ (fault .fault-for .ensures) (call .before .before .if4 .taken)) (call .answer-fault2 .ensures))
+    (named .name-in .ensures) _ (fault .fault-for .ensures) (found .found .given .1)) (call .answer-fault2 .ensures))
+
+enum-told : tie.Need-enum-told
+enum-told c = search needs
 
 perform-requires : tie.Need-perform-requires
 perform-requires c κs = search needs
@@ -105,8 +112,8 @@ returns-5 : tie.Need-returns-5
 returns-5 c =
     let feed = c .before .before in
     let call = feed .before .before .before .before .before in
-    let no-fault-found = call .before .before in
-    let fault = no-fault-found .before in
+    let none = call .before .before in
+    let fault = none .before .before in
     let named = fault .before in
     let no-comment = named .before .before in
     let at-byte = no-comment .before .before in
@@ -114,7 +121,7 @@ returns-5 c =
     let tested = at-byte .before .before in
     in-full _ (typed (tested .before)) _ _
     (rw (no-fault _ _ _ (tested .if1 .left) field (omega (arith, at-byte .if2 .left)) (ne-eqb _ _ (no-comment .if3 .left)) _
-    (named .name-in .ensures) _ (fault .fault-for .ensures) (no-fault-found .if4 .left))
+    (named .name-in .ensures) _ (fault .fault-for .ensures) (none .enum-told .given .1))
     (line-fed _ _ _ (call .perform .ensures) (feed .put-byte .ensures)))
 
 pub answer-line-spec : {M : Type 1} → statement M
@@ -133,10 +140,12 @@ answer-line-spec =
     part-name-in-end
     name-in-requires
     fault-for-requires
+    enum-known-found
     answer-fault-requires-2
-    same-length-2
-    returns-4
+    enum-told
     perform-requires
     put-byte-requires
+    same-length-2
+    returns-4
     same-length-3
     returns-5)

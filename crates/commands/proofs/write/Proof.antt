@@ -4,7 +4,7 @@ use Prim.Native.Nat.{_≤_}
 use native.Mathlib.Omega.{arith}
 use borrow.Author.Needs.{needs}
 use lib.ListN.{length}
-use Rattle.guide.specs.Sizes.{baseMost, seriesMost}
+use Rattle.rules.specs.Sizes.{baseMost, seriesMost}
 use Rattle.store.proofs.Returning.{written-fits, written-count}
 use Rattle.commands.proofs.Writing.{form-replied, refusal-replied}
 use Rattle.commands.proofs.write.Statement.{statement}
@@ -31,7 +31,8 @@ array-share-prefix-bytes c =
 
 slice-aggregate-put-form : tie.Need-slice-aggregate-put-form
 slice-aggregate-put-form c =
-    written-count _ _ _ _ (rw (c .before .before .before .written .given .1) at (c .before .before .before .before .before .before .write .ensures))
+    let known = c .before .before .before in
+    written-count _ _ _ _ (rw (known .written .given .1) at (known .before .before .before .write .ensures))
 
 put-form-requires : tie.Need-put-form-requires
 put-form-requires c κs = search needs

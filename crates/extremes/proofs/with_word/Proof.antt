@@ -5,22 +5,24 @@ use Rattle.extremes.proofs.Picking.{picked-held}
 use Rattle.extremes.proofs.with_word.Statement.{statement}
 use Rattle.extremes.proofs.with_word.Tie as tie
 
-lesser-requires : tie.Need-lesser-requires
-lesser-requires c κs = search needs
+choose-requires : tie.Need-choose-requires
+choose-requires c κs = search needs
 
-greater-requires : tie.Need-greater-requires
-greater-requires c κs = search needs
+choose-requires-2 : tie.Need-choose-requires-2
+choose-requires-2 c κs = search needs
 
 returns : tie.Need-returns
+unfolding lesser greater
 returns c =
-    let least = c .before .before .lesser in
-    let greatest = c .greater in
-    let told = c .before .struct-told2 .given in
-    let w = c .before .before .before .before .fits .w in
+    let first = c .before .before .before .before in
+    let told = c .before .struct-told4 .given in
+    let start = first .before .before .before .before in
+    let e = start .args .e in
+    let w = start .fits .w in
     record {
-      least = picked-held lesser (sfits-of (least .ok)) (sfits-of (told .0 .1)) w (least .ensures);
-      greatest = picked-held greater (sfits-of (greatest .ok)) (sfits-of (told .1 .0 .1)) w (greatest .ensures);
+      least = picked-held lesser {a = e .least} (sfits-of (first .choose .ok)) (sfits-of (told .0 .1)) w (first .choose .ensures);
+      greatest = picked-held greater {a = e .greatest} (sfits-of (c .choose2 .ok)) (sfits-of (told .1 .0 .1)) w (c .choose2 .ensures);
     }
 
 pub with-word-spec : {M : Type 1} → statement M
-with-word-spec = tie.close (tie.spec lesser-requires greater-requires returns)
+with-word-spec = tie.close (tie.spec choose-requires choose-requires-2 returns)

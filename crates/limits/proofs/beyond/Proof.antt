@@ -1,6 +1,6 @@
 -- `limits::beyond` meets its contract.
 use borrow.Author.Needs.{needs}
-use Rattle.guide.specs.Limits.{above, below, aboveMean, belowMean, beyondUpper, beyondLower}
+use Rattle.rules.specs.Limits.{above, below, aboveMean, belowMean, beyondUpper, beyondLower}
 use Rattle.limits.proofs.Comparison.{HeldDeviation, held-deviation}
 use Rattle.limits.proofs.beyond.Statement.{statement}
 use Rattle.limits.proofs.beyond.Tie as tie

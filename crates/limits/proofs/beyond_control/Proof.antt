@@ -3,7 +3,7 @@ use mathlib.Core.Path.{ap, _∙_}
 use mathlib.Core.Bool.{_||_}
 use borrow.Author.Needs.{needs}
 use mir.Facts.{toZ-ofZ}
-use Rattle.guide.specs.Limits.{controlMultiple, beyond, beyondControl}
+use Rattle.rules.specs.Limits.{controlMultiple, beyond, beyondControl}
 use Rattle.limits.specs.Sums.{limitsSay}
 use Rattle.limits.proofs.beyond_control.Statement.{statement}
 use Rattle.limits.proofs.beyond_control.Tie as tie

@@ -2,7 +2,7 @@
 use mathlib.Core.Path.{ap, _∙_}
 use borrow.Author.Needs.{needs}
 use mir.Facts.{toZ-ofZ}
-use Rattle.guide.specs.Limits.{warningMultiple, beyondUpper, beyondLower, beyondUpperWarning, beyondLowerWarning}
+use Rattle.rules.specs.Limits.{warningMultiple, beyondUpper, beyondLower, beyondUpperWarning, beyondLowerWarning}
 use Rattle.limits.specs.Sums.{limitsSay}
 use Rattle.limits.proofs.beyond_warning.Statement.{statement}
 use Rattle.limits.proofs.beyond_warning.Tie as tie

@@ -10,7 +10,7 @@ squares-of-requires c κs = search needs
 returns : tie.Need-returns
 returns c =
     let a = c .before .before in
-    exceeds-is (a .args .m) (a .args .s) (a .args .d) (c .before .squares-of .result) (a .fits .d) (c .before .squares-of .ensures)
+    exceeds-is (a .args .m) (a .args .s) (a .fits .d) (c .before .squares-of .ensures)
 
 pub exceeds-spec : {M : Type 1} → statement M
 exceeds-spec = tie.close (tie.spec squares-of-requires returns)

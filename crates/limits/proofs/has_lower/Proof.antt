@@ -1,6 +1,6 @@
 -- `limits::has_lower` meets its contract.
 use mathlib.Core.Path.{refl}
-use Rattle.guide.specs.Kind.{hasLower}
+use Rattle.rules.specs.Kind.{hasLower}
 use Rattle.limits.proofs.has_lower.Statement.{statement}
 use Rattle.limits.proofs.has_lower.Tie as tie
 

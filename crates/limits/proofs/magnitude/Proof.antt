@@ -3,7 +3,7 @@ use mathlib.Core.Path.{ap}
 use native.Mathlib.Omega.{arith}
 use lib.IntN.{natAbs}
 use mir.Syntax.{w64}
-use Rattle.guide.proofs.Complement.{Complement, complement, Natural, natural}
+use Rattle.rules.proofs.Complement.{Complement, complement, Natural, natural}
 use Rattle.limits.proofs.magnitude.Statement.{statement}
 use Rattle.limits.proofs.magnitude.Tie as tie
 

@@ -2,7 +2,7 @@
 use mathlib.Core.Path.{ap, _∙_}
 use native.Mathlib.Omega.{arith}
 use borrow.Author.Needs.{needs}
-use Rattle.guide.specs.Limits.{within, nearMean}
+use Rattle.rules.specs.Limits.{within, nearMean}
 use Rattle.limits.specs.Sums.{sumsSay}
 use Rattle.limits.proofs.Comparison.{HeldDeviation, held-deviation}
 use Rattle.limits.proofs.near_mean.Statement.{statement}

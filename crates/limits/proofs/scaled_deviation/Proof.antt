@@ -1,6 +1,6 @@
 -- `limits::scaled_deviation` meets its contract.
 use borrow.Author.Needs.{needs}
-use Rattle.guide.proofs.Held.{cast-fits}
+use Rattle.rules.proofs.Held.{cast-fits}
 use Rattle.limits.proofs.Deviation.{product, deviation}
 use Rattle.limits.proofs.scaled_deviation.Statement.{statement}
 use Rattle.limits.proofs.scaled_deviation.Tie as tie

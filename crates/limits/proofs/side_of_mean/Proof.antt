@@ -1,7 +1,7 @@
 -- `limits::side_of_mean` meets its contract.
 use native.Mathlib.Omega.{arith}
 use borrow.Author.Needs.{needs}
-use Rattle.guide.specs.Limits.{aboveMean, belowMean}
+use Rattle.rules.specs.Limits.{aboveMean, belowMean}
 use Rattle.limits.proofs.Comparison.{HeldDeviation, held-deviation}
 use Rattle.limits.proofs.side_of_mean.Statement.{statement}
 use Rattle.limits.proofs.side_of_mean.Tie as tie

@@ -4,7 +4,7 @@ use Prim.Native.Nat.{ℕ, _*_}
 use native.Mathlib.Omega.{arith}
 use borrow.Author.Needs.{needs}
 use lib.IntN.{natAbs}
-use Rattle.guide.proofs.Held.{cast-word, cast-fits, word-square-small}
+use Rattle.rules.proofs.Held.{cast-word, cast-fits, word-square-small}
 use Rattle.limits.proofs.square.Statement.{statement}
 use Rattle.limits.proofs.square.Tie as tie
 

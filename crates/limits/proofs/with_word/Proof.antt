@@ -5,9 +5,9 @@ use borrow.Author.Needs.{needs}
 use lib.IntN.{ℤ, pos, _+ℤ_}
 use mir.Facts.{toZ-ofZ}
 use native.Mathlib.Omega.{arith}
-use Rattle.guide.proofs.Held.{cast-fits, word-square-small}
-use Rattle.guide.specs.Limits.{squareOf}
-use Rattle.guide.proofs.Integers.{square-magnitude}
+use Rattle.rules.proofs.Held.{cast-fits, word-square-small}
+use Rattle.rules.specs.Limits.{squareOf}
+use Rattle.rules.proofs.Integers.{square-magnitude}
 use Rattle.limits.proofs.Deviation.{sum-with}
 use Rattle.limits.proofs.with_word.Statement.{statement}
 use Rattle.limits.proofs.with_word.Tie as tie
@@ -19,7 +19,7 @@ cast-t4 : tie.Need-cast-t4
 cast-t4 c = cast-fits (c .before .fits .w)
 
 add-t5 : tie.Need-add-t5
-add-t5 c = let a = c .before .before .before in sum-with (a .args .s) (a .pre .1) (a .args .w) (a .fits .w) .fits
+add-t5 c = let a = c .before .before .before in sum-with (a .args .s) (a .pre .bounded) (a .args .w) (a .fits .w) .fits
 
 square-requires : tie.Need-square-requires
 square-requires c κs = search needs
@@ -31,12 +31,12 @@ square c = c .square .ensures ∙ ap squareOf (toZ-ofZ (c .before .before .befor
 add-t7 : tie.Need-add-t7
 add-t7 c =
     let a = c .before .before .before .before .before in
-    omega (arith, square (c .before), word-square-small (a .fits .w), a .pre .0, a .pre .1 .squares)
+    omega (arith, square (c .before), word-square-small (a .fits .w), a .pre .room, a .pre .bounded .squares)
 
 returns : tie.Need-returns
 returns c =
     let a = c .before .before .before .before .before in
-    let t = sum-with (a .args .s) (a .pre .1) (a .args .w) (a .fits .w) .is in
+    let t = sum-with (a .args .s) (a .pre .bounded) (a .args .w) (a .fits .w) .is in
     let q = ap (λ (x : ℕ). pos (a .args .s .q + x)) (square (c .before))
     ∙ ap (λ (z : ℤ). pos (a .args .s .q) +ℤ z) (sym (square-magnitude (a .args .w))) in
     λ i. record { n = a .args .s .n + 1; t = t i; q = q i }

@@ -10,7 +10,7 @@ squares-of-requires c κs = search needs
 returns : tie.Need-returns
 returns c =
     let a = c .before .before in
-    within-is (a .args .m) (a .args .s) (a .args .d) (c .before .squares-of .result) (a .fits .d) (c .before .squares-of .ensures)
+    within-is (a .args .m) (a .args .s) (a .fits .d) (c .before .squares-of .ensures)
 
 pub within-spec : {M : Type 1} → statement M
 within-spec = tie.close (tie.spec squares-of-requires returns)

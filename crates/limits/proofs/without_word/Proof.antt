@@ -3,8 +3,8 @@ use mathlib.Core.Path.{_≡_, ap, _∙_}
 use native.Mathlib.Omega.{arith}
 use borrow.Author.Needs.{needs}
 use mir.Facts.{toZ-ofZ}
-use Rattle.guide.specs.Limits.{squareOf}
-use Rattle.guide.proofs.Held.{cast-fits}
+use Rattle.rules.specs.Limits.{squareOf}
+use Rattle.rules.proofs.Held.{cast-fits}
 use Rattle.limits.proofs.Removing.{sum-without, square-held, less-one}
 use Rattle.limits.proofs.without_word.Statement.{statement}
 use Rattle.limits.proofs.without_word.Tie as tie

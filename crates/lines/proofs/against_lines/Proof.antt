@@ -2,7 +2,7 @@
 use mathlib.Core.Path.{_≡_}
 use mathlib.Core.Bool.{true}
 use borrow.Author.Needs.{needs}
-use Rattle.guide.proofs.Booleans.{answered-no, answered-yes}
+use Rattle.rules.proofs.Booleans.{answered-no, answered-yes}
 use Rattle.chart.specs.Soundness.{soundChart}
 use Rattle.lines.specs.Lines.{againstSays}
 use Rattle.lines.proofs.ChartLines.{lines-compared, comparison-given, comparison-declined}

@@ -2,7 +2,7 @@
 use mathlib.Core.Path.{sym}
 use native.Mathlib.Omega.{arith}
 use borrow.Author.Needs.{needs}
-use Rattle.guide.specs.State.{limitsFor}
+use Rattle.rules.specs.State.{limitsFor}
 use Rattle.chart.specs.Chart.{stateOf}
 use Rattle.chart.proofs.State.{Within, given, base-fits, base-count}
 use Rattle.lines.proofs.base_limits.Statement.{statement}

@@ -31,20 +31,20 @@ above-line-requires-4 c κs = search needs
 returns : tie.Need-returns
 returns c =
     let a = c .before .before .before .before .before in
-    let g = c .before .before .before .lines .given in
-    against-duplicate (a .args .lines) (a .args .word) (a .fits .word) (g .0 .0) (g .0 .1 .0) (g .0 .1 .1 .0)
-    (c .before .above-line .result) (c .above-line2 .result) (g .1) (c .before .above-line .ensures) (c .above-line2 .ensures)
+    let (values, is) = c .before .before .before .lines .given in
+    against-duplicate (a .args .lines) (a .args .word) (a .fits .word) _ _ _ (c .before .above-line .result) (c .above-line2 .result)
+    is (c .before .above-line .ensures) (c .above-line2 .ensures)
 
 returns-2 : tie.Need-returns-2
 returns-2 c =
     let lower-control = c .before in
     let upper-warning = lower-control .before in
     let lower-warning = upper-warning .before in
-    let g = lower-warning .before .before .lines2 .given in
+    let (values, is) = lower-warning .before .before .lines2 .given in
     let a = lower-warning .before .before .before .before in
-    against-two-sided (a .args .lines) (a .args .word) (a .fits .word) (g .0 .0)
+    against-two-sided (a .args .lines) (a .args .word) (a .fits .word) _
     (lower-warning .below-line .result) (upper-warning .above-line3 .result) (lower-control .below-line2 .result) (c .above-line4 .result)
-    (g .1) (lower-warning .below-line .ensures) (upper-warning .above-line3 .ensures) (lower-control .below-line2 .ensures)
+    is (lower-warning .below-line .ensures) (upper-warning .above-line3 .ensures) (lower-control .below-line2 .ensures)
     (c .above-line4 .ensures)
 
 pub beyond-lines-spec : {M : Type 1} → statement M

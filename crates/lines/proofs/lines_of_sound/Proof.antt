@@ -1,7 +1,7 @@
 -- `lines::lines_of_sound` meets its contract.
 use mathlib.Core.Path.{ap, _∙_}
 use borrow.Author.Needs.{needs}
-use Rattle.guide.specs.ChartLines.{linesOf}
+use Rattle.rules.specs.ChartLines.{linesOf}
 use Rattle.lines.proofs.ChartLines.{has-lines}
 use Rattle.lines.proofs.lines_of_sound.Statement.{statement}
 use Rattle.lines.proofs.lines_of_sound.Tie as tie

@@ -3,7 +3,7 @@ use mathlib.Core.Path.{_≡_, refl}
 use mathlib.Core.Bool.{true}
 use borrow.Author.Needs.{needs}
 use denote.Ref.{now}
-use Rattle.guide.proofs.Booleans.{answered-no, answered-yes}
+use Rattle.rules.proofs.Booleans.{answered-no, answered-yes}
 use Rattle.lists.specs.Encoding.{areCalls}
 use Rattle.lists.specs.Runs.{runSays}
 use Rattle.lists.proofs.Outcomes.{without-calls, without-room, fits-room, without-start, with-all}

@@ -1,15 +1,15 @@
 -- `lists::run_from_bytes` meets its contract.
 use borrow.Author.Needs.{needs}
 use denote.Ref.{now}
-use Rattle.guide.specs.Sizes.{baseLeast}
-use Rattle.guide.specs.Lists.{bytesStart}
-use Rattle.guide.proofs.Lists.{start-of-reading}
+use Rattle.rules.specs.Sizes.{baseLeast}
+use Rattle.rules.proofs.Lists.{start-of-reading}
+use Rattle.store.proofs.HeldChart.{reading-number}
 use Rattle.lists.proofs.Outcomes.{runs-list}
 use Rattle.lists.proofs.run_from_bytes.Statement.{statement}
 use Rattle.lists.proofs.run_from_bytes.Tie as tie
 
-start-of-bytes-requires : tie.Need-start-of-bytes-requires
-start-of-bytes-requires c κs = search needs
+held-in-requires : tie.Need-held-in-requires
+held-in-requires c κs = search needs
 
 run-from-requires : tie.Need-run-from-requires
 run-from-requires c κs = search needs
@@ -19,10 +19,10 @@ same-length c = search needs
 
 returns : tie.Need-returns
 returns c =
-    let s = c .before .before .before .before .before .args in
-    let start = c .before .before .before .start-of-bytes in
-    runs-list _ _ _ (c .before .run-from .result) baseLeast (bytesStart (now (s .bytes))) (start .result)
-    (start-of-reading (now (s .bytes))) (start .ensures) (c .before .run-from .ensures)
+    let held = c .before .before .before in
+    let bytes = now (held .before .before .args .bytes) in
+    runs-list _ _ _ _ baseLeast _ (held .held-in .result) (start-of-reading bytes) (reading-number bytes) (held .held-in .ensures)
+    (c .before .run-from .ensures)
 
 pub run-from-bytes-spec : {M : Type 1} → statement M
-run-from-bytes-spec = tie.close (tie.spec start-of-bytes-requires run-from-requires same-length returns)
+run-from-bytes-spec = tie.close (tie.spec held-in-requires run-from-requires same-length returns)

@@ -1,8 +1,9 @@
 -- `outcomes::on_file` meets its contract.
+use mathlib.Core.Path.{_≡_}
 use borrow.Author.Needs.{needs}
 use borrow.Author.Tests.{not-true, not-false}
 use denote.Ref.{now}
-use Rattle.outcomes.specs.OnFile.{heldIn}
+use Rattle.outcomes.specs.OnFile.{heldIn, startFrom, startOf}
 use Rattle.outcomes.proofs.Ending.{ends-in-fault, start-without, start-with, and-counted}
 use Rattle.outcomes.proofs.on_file.Statement.{statement}
 use Rattle.outcomes.proofs.on_file.Tie as tie
@@ -21,8 +22,9 @@ returns c =
     let call = c .before .before in
     let tested = call .before .before in
     let args = tested .before .before .before .before .before .before .args in
-    let start = start-without (heldIn (args .there) (now (args .held))) _ (tested .before .has-command .ensures) (not-true _ (tested .if1 .taken)) in
-    rw start (and-counted (ends-in-fault _ (call .fault .ensures)))
+    let held = heldIn (args .there) (now (args .held)) in
+    rw (start-without held _ (tested .before .has-command .ensures) (not-true _ (tested .if1 .taken)))
+    (and-counted (ends-in-fault _ (call .fault .ensures)))
 
 on-bytes-requires : tie.Need-on-bytes-requires
 on-bytes-requires c κs = search needs
@@ -33,14 +35,18 @@ same-length-2 c = search needs
 same-length-3 : tie.Need-same-length-3
 same-length-3 c = search needs
 
+-- the line has a command
+with-command : (c : tie.Else1)
+    → let args = c .before .before .before .before .before .before .args in
+    let held = heldIn (args .there) (now (args .held)) in
+    startOf held (now (args .line)) ≡ startFrom held (now (args .line))
+with-command c = start-with _ _ (c .before .has-command .ensures) (not-false _ (c .if1 .left))
+
 returns-2 : tie.Need-returns-2
 returns-2 c =
     let call = c .before .before .before .before in
     let asked = call .before .before .before in
-    let tested = asked .before in
-    let args = tested .before .before .before .before .before .before .args in
-    let start = start-with (heldIn (args .there) (now (args .held))) _ (tested .before .has-command .ensures) (not-false _ (tested .if1 .left)) in
-    rw (start, asked .if2 .taken) (and-counted (call .on-bytes .ensures))
+    rw (with-command (asked .before), asked .if2 .taken) (and-counted (call .on-bytes .ensures))
 
 on-no-file-requires : tie.Need-on-no-file-requires
 on-no-file-requires c κs = search needs
@@ -55,10 +61,7 @@ returns-3 : tie.Need-returns-3
 returns-3 c =
     let call = c .before .before .before .before in
     let asked = call .before .before .before in
-    let tested = asked .before in
-    let args = tested .before .before .before .before .before .before .args in
-    let start = start-with (heldIn (args .there) (now (args .held))) _ (tested .before .has-command .ensures) (not-false _ (tested .if1 .left)) in
-    rw (start, asked .if2 .left) (and-counted (call .on-no-file .ensures))
+    rw (with-command (asked .before), asked .if2 .left) (and-counted (call .on-no-file .ensures))
 
 pub on-file-spec : {M : Type 1} → statement M
 on-file-spec =

@@ -1,30 +1,56 @@
 -- `replies::put_chart` meets its contract.
 use mathlib.Core.Path.{_≡_}
-use Prim.Native.Nat.{min}
 use borrow.Author.Needs.{needs}
 use lib.ListN.{length}
-use Rattle.guide.specs.Sizes.{baseMost, seriesMost}
+use Rattle.rules.specs.Sizes.{baseMost, seriesMost}
 use Rattle.chart.specs.Chart.{stateOf}
-use Rattle.printing.proofs.Putting.{puts-then}
+use Rattle.printing.proofs.Putting.{puts-then, puts-length}
 use Rattle.replies.specs.Texts.{stateText}
 use Rattle.replies.proofs.FirstWords.{FirstWords, first-words}
 use Rattle.replies.proofs.put_chart.Statement.{statement}
 use Rattle.replies.proofs.put_chart.Tie as tie
+
+-- the places of the code, each from a later one: the start, and the place after each part that is put
+abbrev start : tie.After-put-named → tie.Start
+start c = c .before .before .before .before .before
+
+abbrev kind : tie.After-put-named2 → tie.After-put-named
+kind c = let named = c .before .before .before in named .before .before .before
+
+abbrev status : tie.After-put-named3 → tie.After-put-named2
+status c = let named = c .before .before .before in named .before .before .before
+
+abbrev verdict : tie.After-smaller → tie.After-put-named3
+verdict c = c .before .before .before .before
+
+abbrev base-count : tie.After-put-list → tie.After-smaller
+base-count c = c .before .before .before .before
+
+abbrev base : tie.After-smaller2 → tie.After-put-list
+base c = c .before .before .before .before
+
+base-places : (c : tie.Start) → length (c .args .chart .base) ≡ baseMost
+base-places c = search needs
 
 series-places : (c : tie.Start) → length (c .args .chart .series) ≡ seriesMost
 series-places c = search needs
 
 -- the words of the base and of the series that are shown
 base-shown : (c : tie.After-smaller)
-    → let chart = c .before .before .before .before .before .before .before .before .before .before .before .before .before .before .before .before .before .before .args .chart in FirstWords (chart .«base_len») (c .smaller .result) (chart .base)
-base-shown c = first-words baseMost _ _ _ (search needs) (c .smaller .ensures)
+    → let chart = start (kind (status (verdict c))) .args .chart in FirstWords (chart .«base_len») (c .smaller .result) (chart .base)
+base-shown c = first-words baseMost _ _ _ (base-places (start (kind (status (verdict c))))) (c .smaller .ensures)
 
 series-shown : (c : tie.After-smaller2)
-    → let chart = c .before .before .before .before .before .before .before .before .before .before .before .before .before .before .before .before .before .before .before .before .before .before .before .before .before .before .args .chart in FirstWords (chart .«series_len») (c .smaller2 .result) (chart .series)
-series-shown c = first-words seriesMost _ _ _ (series-places (c .before .before .before .before .before .before .before .before .before .before .before .before .before .before .before .before .before .before .before .before .before .before .before .before .before .before)) (c .smaller2 .ensures)
+    → let chart = start (kind (status (verdict (base-count (base c))))) .args .chart in
+    FirstWords (chart .«series_len») (c .smaller2 .result) (chart .series)
+series-shown c =
+    first-words seriesMost _ _ _ (series-places (start (kind (status (verdict (base-count (base c))))))) (c .smaller2 .ensures)
 
 slice-aggregate-put-named : tie.Need-slice-aggregate-put-named
 slice-aggregate-put-named c = search needs
+
+cast-put-named : tie.Need-cast-put-named
+cast-put-named c = search needs
 
 put-named-requires : tie.Need-put-named-requires
 put-named-requires c κs = search needs
@@ -32,11 +58,17 @@ put-named-requires c κs = search needs
 slice-aggregate-put-named-2 : tie.Need-slice-aggregate-put-named-2
 slice-aggregate-put-named-2 c = search needs
 
+cast-put-named-2 : tie.Need-cast-put-named-2
+cast-put-named-2 c = search needs
+
 put-named-requires-2 : tie.Need-put-named-requires-2
 put-named-requires-2 c κs = search needs
 
 slice-aggregate-put-named-3 : tie.Need-slice-aggregate-put-named-3
 slice-aggregate-put-named-3 c = search needs
+
+cast-put-named-3 : tie.Need-cast-put-named-3
+cast-put-named-3 c = search needs
 
 put-named-requires-3 : tie.Need-put-named-requires-3
 put-named-requires-3 c κs = search needs
@@ -71,33 +103,34 @@ slice-aggregate-put-list-4 c = series-shown (c .before .before .before) .counted
 put-list-requires-2 : tie.Need-put-list-requires-2
 put-list-requires-2 c κs = search needs
 
-same-length : tie.Need-same-length
-same-length c = search needs
-
 returns : tie.Need-returns
 unfolding stateText stateOf
 returns c =
-    let series = c .before .before in
-    let base = series .before .before .before .before .before .before .before .before in
-    let verdict = base .before .before .before .before .before .before .before .before in
-    let status = verdict .before .before .before .before .before in
-    let kind = status .before .before .before .before .before in
-    let words = base-shown (base .before .before .before .before) .same in
-    let posted = series-shown (series .before .before .before .before) .same in
-    puts-then (kind .put-named .ensures)
-    (puts-then (status .put-named2 .ensures)
-    (puts-then (verdict .put-named3 .ensures)
-    (puts-then (rw words at (base .put-list .ensures)) (rw posted at (series .put-list2 .ensures)))))
+    let posted = c .before .before in
+    let series-count = posted .before .before .before .before in
+    let words = base series-count in
+    let named = verdict (base-count words) in
+    puts-then (kind (status named) .put-named .ensures)
+    (puts-then (status named .put-named2 .ensures)
+    (puts-then (named .put-named3 .ensures)
+    (puts-then (rw (base-shown (base-count words) .same) at (words .put-list .ensures))
+    (rw (series-shown series-count .same) at (posted .put-list2 .ensures)))))
+
+same-length : tie.Need-same-length
+same-length c = puts-length (returns c)
 
 pub put-chart-spec : {M : Type 1} → statement M
 put-chart-spec =
     tie.close
     (tie.spec
     slice-aggregate-put-named
+    cast-put-named
     put-named-requires
     slice-aggregate-put-named-2
+    cast-put-named-2
     put-named-requires-2
     slice-aggregate-put-named-3
+    cast-put-named-3
     put-named-requires-3
     smaller-requires
     slice-aggregate-put-list

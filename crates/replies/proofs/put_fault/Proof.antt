@@ -1,9 +1,10 @@
--- `replies::put_fault` meets its contract.
+-- `replies::put_fault` meets its contract, by the fault.
 use borrow.Author.Needs.{needs}
-use Rattle.replies.specs.Faults.{faultText}
-use Rattle.replies.proofs.OtherFault.{other-fault}
 use Rattle.replies.proofs.put_fault.Statement.{statement}
 use Rattle.replies.proofs.put_fault.Tie as tie
+
+enum-told : tie.Need-enum-told
+enum-told c = search needs
 
 slice-aggregate-put-text : tie.Need-slice-aggregate-put-text
 slice-aggregate-put-text c = search needs
@@ -11,11 +12,17 @@ slice-aggregate-put-text c = search needs
 put-text-requires : tie.Need-put-text-requires
 put-text-requires c κs = search needs
 
+enum-told-2 : tie.Need-enum-told-2
+enum-told-2 c = search needs
+
 slice-aggregate-put-text-2 : tie.Need-slice-aggregate-put-text-2
 slice-aggregate-put-text-2 c = search needs
 
 put-text-requires-2 : tie.Need-put-text-requires-2
 put-text-requires-2 c κs = search needs
+
+enum-told-3 : tie.Need-enum-told-3
+enum-told-3 c = search needs
 
 slice-aggregate-put-text-3 : tie.Need-slice-aggregate-put-text-3
 slice-aggregate-put-text-3 c = search needs
@@ -23,11 +30,17 @@ slice-aggregate-put-text-3 c = search needs
 put-text-requires-3 : tie.Need-put-text-requires-3
 put-text-requires-3 c κs = search needs
 
+enum-told-4 : tie.Need-enum-told-4
+enum-told-4 c = search needs
+
 slice-aggregate-put-text-4 : tie.Need-slice-aggregate-put-text-4
 slice-aggregate-put-text-4 c = search needs
 
 put-text-requires-4 : tie.Need-put-text-requires-4
 put-text-requires-4 c κs = search needs
+
+enum-told-5 : tie.Need-enum-told-5
+enum-told-5 c = search needs
 
 slice-aggregate-put-text-5 : tie.Need-slice-aggregate-put-text-5
 slice-aggregate-put-text-5 c = search needs
@@ -35,17 +48,26 @@ slice-aggregate-put-text-5 c = search needs
 put-text-requires-5 : tie.Need-put-text-requires-5
 put-text-requires-5 c κs = search needs
 
+enum-told-6 : tie.Need-enum-told-6
+enum-told-6 c = search needs
+
 slice-aggregate-put-text-6 : tie.Need-slice-aggregate-put-text-6
 slice-aggregate-put-text-6 c = search needs
 
 put-text-requires-6 : tie.Need-put-text-requires-6
 put-text-requires-6 c κs = search needs
 
+enum-told-7 : tie.Need-enum-told-7
+enum-told-7 c = search needs
+
 slice-aggregate-put-text-7 : tie.Need-slice-aggregate-put-text-7
 slice-aggregate-put-text-7 c = search needs
 
 put-text-requires-7 : tie.Need-put-text-requires-7
 put-text-requires-7 c κs = search needs
+
+enum-told-8 : tie.Need-enum-told-8
+enum-told-8 c = search needs
 
 slice-aggregate-put-text-8 : tie.Need-slice-aggregate-put-text-8
 slice-aggregate-put-text-8 c = search needs
@@ -57,92 +79,76 @@ same-length : tie.Need-same-length
 same-length c = search needs
 
 returns : tie.Need-returns
-unfolding faultText
-returns c =
-    let put = c .before .before in
-    rw (put .before .before .before .match .keys1) (put .put-text .ensures)
+returns c = rw (c .before .before .before .before .before .enum-told .given .1) (c .before .before .put-text .ensures)
 
 same-length-2 : tie.Need-same-length-2
 same-length-2 c = search needs
 
 returns-2 : tie.Need-returns-2
-unfolding faultText
-returns-2 c =
-    let put = c .before .before in
-    rw (put .before .before .before .match .keys2) (put .put-text2 .ensures)
+returns-2 c = rw (c .before .before .before .before .before .enum-told2 .given .1) (c .before .before .put-text2 .ensures)
 
 same-length-3 : tie.Need-same-length-3
 same-length-3 c = search needs
 
 returns-3 : tie.Need-returns-3
-unfolding faultText
-returns-3 c =
-    let put = c .before .before in
-    rw (put .before .before .before .match .keys3) (put .put-text3 .ensures)
+returns-3 c = rw (c .before .before .before .before .before .enum-told3 .given .1) (c .before .before .put-text3 .ensures)
 
 same-length-4 : tie.Need-same-length-4
 same-length-4 c = search needs
 
 returns-4 : tie.Need-returns-4
-unfolding faultText
-returns-4 c =
-    let put = c .before .before in
-    rw (put .before .before .before .match .keys4) (put .put-text4 .ensures)
+returns-4 c = rw (c .before .before .before .before .before .enum-told4 .given .1) (c .before .before .put-text4 .ensures)
 
 same-length-5 : tie.Need-same-length-5
 same-length-5 c = search needs
 
 returns-5 : tie.Need-returns-5
-unfolding faultText
-returns-5 c =
-    let put = c .before .before in
-    rw (put .before .before .before .match .keys5) (put .put-text5 .ensures)
+returns-5 c = rw (c .before .before .before .before .before .enum-told5 .given .1) (c .before .before .put-text5 .ensures)
 
 same-length-6 : tie.Need-same-length-6
 same-length-6 c = search needs
 
 returns-6 : tie.Need-returns-6
-unfolding faultText
-returns-6 c =
-    let put = c .before .before in
-    rw (put .before .before .before .match .keys6) (put .put-text6 .ensures)
+returns-6 c = rw (c .before .before .before .before .before .enum-told6 .given .1) (c .before .before .put-text6 .ensures)
 
 same-length-7 : tie.Need-same-length-7
 same-length-7 c = search needs
 
 returns-7 : tie.Need-returns-7
-unfolding faultText
-returns-7 c =
-    let put = c .before .before in
-    rw (put .before .before .before .match .keys7) (put .put-text7 .ensures)
+returns-7 c = rw (c .before .before .before .before .before .enum-told7 .given .1) (c .before .before .put-text7 .ensures)
 
 same-length-8 : tie.Need-same-length-8
 same-length-8 c = search needs
 
 returns-8 : tie.Need-returns-8
-returns-8 c =
-    let put = c .before .before in
-    let start = put .before .before .before .before .before in
-    rw (other-fault (start .args .fault) (put .before .before .before .match .rest)) (put .put-text8 .ensures)
+returns-8 c = rw (c .before .before .before .before .before .enum-told8 .given .1) (c .before .before .put-text8 .ensures)
 
 pub put-fault-spec : {M : Type 1} → statement M
 put-fault-spec =
     tie.close
     (tie.spec
+    enum-told
     slice-aggregate-put-text
     put-text-requires
+    enum-told-2
     slice-aggregate-put-text-2
     put-text-requires-2
+    enum-told-3
     slice-aggregate-put-text-3
     put-text-requires-3
+    enum-told-4
     slice-aggregate-put-text-4
     put-text-requires-4
+    enum-told-5
     slice-aggregate-put-text-5
     put-text-requires-5
+    enum-told-6
     slice-aggregate-put-text-6
     put-text-requires-6
+    enum-told-7
     slice-aggregate-put-text-7
     put-text-requires-7
+    enum-told-8
     slice-aggregate-put-text-8
     put-text-requires-8
     same-length

@@ -12,17 +12,14 @@ enum-known-answer c = search needs
 put-word-requires : tie.Need-put-word-requires
 put-word-requires c κs = search needs
 
-slice-aggregate-put-text : tie.Need-slice-aggregate-put-text
-slice-aggregate-put-text c = search needs
+slice-aggregate-put-named : tie.Need-slice-aggregate-put-named
+slice-aggregate-put-named c = search needs
 
-put-text-requires : tie.Need-put-text-requires
-put-text-requires c κs = search needs
+cast-put-named : tie.Need-cast-put-named
+cast-put-named c = search needs
 
-cast-put-decimal : tie.Need-cast-put-decimal
-cast-put-decimal c = search needs
-
-put-decimal-requires : tie.Need-put-decimal-requires
-put-decimal-requires c κs = search needs
+put-named-requires : tie.Need-put-named-requires
+put-named-requires c κs = search needs
 
 enum-known-answer-2 : tie.Need-enum-known-answer-2
 enum-known-answer-2 c = search needs
@@ -37,12 +34,10 @@ returns : tie.Need-returns
 unfolding postSays
 returns c =
     let verdict = c .before .before in
-    let name = verdict .before .before .before .before in
-    let word = name .before .before .before .before .before in
+    let word = verdict .before .before .before .before .before in
     let known = word .before .before in
     rw (known .before .answer .given .1)
-    (puts-then (rw (toZ-ofZ (sfits-of (known .known-told .given .0 .1))) at (word .put-word .ensures))
-    (puts-then (name .put-text .ensures) (verdict .put-decimal .ensures)))
+    (puts-then (rw (toZ-ofZ (sfits-of (known .known-told .given .0 .1))) at (word .put-word .ensures)) (verdict .put-named .ensures))
 
 same-length-2 : tie.Need-same-length-2
 same-length-2 c = search needs
@@ -59,10 +54,9 @@ put-post-spec =
     (tie.spec
     enum-known-answer
     put-word-requires
-    slice-aggregate-put-text
-    put-text-requires
-    cast-put-decimal
-    put-decimal-requires
+    slice-aggregate-put-named
+    cast-put-named
+    put-named-requires
     enum-known-answer-2
     put-refusal-requires
     same-length

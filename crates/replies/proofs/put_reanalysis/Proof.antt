@@ -2,33 +2,26 @@
 use borrow.Author.Needs.{needs, sfits-of}
 use mir.Facts.{toZ-ofZ}
 use Rattle.chart.specs.Calls.{reanalysisSays}
-use Rattle.printing.proofs.Putting.{puts-then}
 use Rattle.replies.proofs.put_reanalysis.Statement.{statement}
 use Rattle.replies.proofs.put_reanalysis.Tie as tie
 
 enum-known-answer : tie.Need-enum-known-answer
 enum-known-answer c = search needs
 
-put-word-requires : tie.Need-put-word-requires
-put-word-requires c κs = search needs
+slice-aggregate-put-outcome : tie.Need-slice-aggregate-put-outcome
+slice-aggregate-put-outcome c = search needs
 
-slice-aggregate-put-text : tie.Need-slice-aggregate-put-text
-slice-aggregate-put-text c = search needs
-
-put-text-requires : tie.Need-put-text-requires
-put-text-requires c κs = search needs
+put-outcome-requires : tie.Need-put-outcome-requires
+put-outcome-requires c κs = search needs
 
 enum-known-answer-2 : tie.Need-enum-known-answer-2
 enum-known-answer-2 c = search needs
 
-put-word-requires-2 : tie.Need-put-word-requires-2
-put-word-requires-2 c κs = search needs
+slice-aggregate-put-outcome-2 : tie.Need-slice-aggregate-put-outcome-2
+slice-aggregate-put-outcome-2 c = search needs
 
-slice-aggregate-put-text-2 : tie.Need-slice-aggregate-put-text-2
-slice-aggregate-put-text-2 c = search needs
-
-put-text-requires-2 : tie.Need-put-text-requires-2
-put-text-requires-2 c κs = search needs
+put-outcome-requires-2 : tie.Need-put-outcome-requires-2
+put-outcome-requires-2 c κs = search needs
 
 enum-known-answer-3 : tie.Need-enum-known-answer-3
 enum-known-answer-3 c = search needs
@@ -42,11 +35,10 @@ same-length c = search needs
 returns : tie.Need-returns
 unfolding reanalysisSays
 returns c =
-    let outcome = c .before .before in
-    let word = outcome .before .before .before .before .before in
-    let known = word .before .before in
+    let put = c .before .before in
+    let known = put .before .before .before in
     rw (known .before .answer .given .1)
-    (puts-then (rw (toZ-ofZ (sfits-of (known .known-told .given .0 .1))) at (word .put-word .ensures)) (outcome .put-text .ensures))
+    (rw (toZ-ofZ (sfits-of (known .known-told .given .0 .1))) at (put .put-outcome .ensures))
 
 same-length-2 : tie.Need-same-length-2
 same-length-2 c = search needs
@@ -54,11 +46,10 @@ same-length-2 c = search needs
 returns-2 : tie.Need-returns-2
 unfolding reanalysisSays
 returns-2 c =
-    let outcome = c .before .before in
-    let word = outcome .before .before .before .before .before in
-    let known = word .before .before in
+    let put = c .before .before in
+    let known = put .before .before .before in
     rw (known .before .answer2 .given .1)
-    (puts-then (rw (toZ-ofZ (sfits-of (known .known-told2 .given .0 .1))) at (word .put-word2 .ensures)) (outcome .put-text2 .ensures))
+    (rw (toZ-ofZ (sfits-of (known .known-told2 .given .0 .1))) at (put .put-outcome2 .ensures))
 
 same-length-3 : tie.Need-same-length-3
 same-length-3 c = search needs
@@ -74,13 +65,11 @@ put-reanalysis-spec =
     tie.close
     (tie.spec
     enum-known-answer
-    put-word-requires
-    slice-aggregate-put-text
-    put-text-requires
+    slice-aggregate-put-outcome
+    put-outcome-requires
     enum-known-answer-2
-    put-word-requires-2
-    slice-aggregate-put-text-2
-    put-text-requires-2
+    slice-aggregate-put-outcome-2
+    put-outcome-requires-2
     enum-known-answer-3
     put-refusal-requires
     same-length

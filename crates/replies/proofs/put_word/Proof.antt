@@ -1,6 +1,6 @@
 -- `replies::put_word` meets its contract.
 use borrow.Author.Needs.{needs}
-use Rattle.guide.proofs.Held.{cast-word, cast-fits}
+use Rattle.rules.proofs.Held.{cast-word, cast-fits}
 use Rattle.printing.proofs.Putting.{puts-then}
 use Rattle.replies.specs.Texts.{wordText}
 use Rattle.replies.proofs.put_word.Statement.{statement}
@@ -13,7 +13,7 @@ put-text-requires : tie.Need-put-text-requires
 put-text-requires c κs = search needs
 
 cast-put-signed : tie.Need-cast-put-signed
-cast-put-signed c = cast-fits (c .before .before .before .before .before .before .before .fits .w)
+cast-put-signed c = let name = c .before .before .before in cast-fits (name .before .before .before .before .fits .w)
 
 put-signed-requires : tie.Need-put-signed-requires
 put-signed-requires c κs = search needs

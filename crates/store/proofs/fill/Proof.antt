@@ -1,29 +1,36 @@
--- `store::fill` meets its contract. Invariant: the first i places of the array hold the words of the first i numbers, and the others have
--- not changed.
+-- `store::fill` meets its contract. Invariant: the first i words are put into the first places of the array.
 use borrow.Author.Needs.{needs, sfits-of}
-use mathlib.Core.Path.{_≡_, refl, ap, _∙_}
-use mathlib.Core.List.{_++_, map}
+use mathlib.Core.Path.{_≡_, _∙_}
 use Prim.Native.Nat.{_-_, _≤_}
 use native.Mathlib.Omega.{arith}
-use lib.ListN.{length, take, drop}
+use lib.ListN.{length, take}
+use lib.Seq.{length-take-le}
 use mir.Syntax.{w16}
 use mir.ValLaws.{toZ-ofZ}
-use Rattle.guide.specs.Bytes.{wordOf}
-use Rattle.store.specs.Records.{numbersAt, filledFrom}
-use Rattle.store.proofs.RecordsIn.{length-numbers-at, filled-more, filled-all}
+use Rattle.rules.specs.Buffer.{Placed, atFront}
+use Rattle.rules.proofs.Buffer.{placed-none, placed-next, placed-all, placed-length}
+use Rattle.store.specs.Records.{wordsAt, filledFrom}
+use Rattle.store.proofs.RecordsIn.{length-words-at, word-of-place}
 use Rattle.store.proofs.fill.Statement.{statement}
 use Rattle.store.proofs.fill.Tie as tie
 
 abbrev Inv-loop : tie.InvT-loop
-Inv-loop words₀ bytes place i₀ words i =
-    (i ≤ place .count)
-    × ((length words ≡ length words₀) × (words ≡ map wordOf (take i (numbersAt bytes place)) ++ drop i words₀))
+Inv-loop words₀ bytes place i₀ words i = (i ≤ place .count) × Placed words₀ 0 (take i (wordsAt bytes place)) words i
 
 abbrev μ-loop : tie.MeasureT-loop
 μ-loop words₀ bytes place i₀ words i = place .count - i
 
+-- the array keeps its length
+same-places : (c : tie.At-loop Inv-loop μ-loop) → length (c .loop .words) ≡ length (c .before .before .args .words .now)
+same-places c =
+    let a = c .before .before .args in
+    let words = wordsAt (a .bytes .now) (a .place) in
+    let (few, placed) = c .loop .inv in
+    let some = length-take-le (c .loop .i) words (omega (arith, length-words-at (a .bytes .now) (a .place))) in
+    placed-length (take (c .loop .i) words) (omega (arith, some)) placed
+
 loop-holds : tie.Need-loop-holds Inv-loop μ-loop
-loop-holds c = (search needs, (refl, refl))
+loop-holds c = (omega arith, placed-none (c .before .args .words .now) 0)
 
 nth-number-requires : tie.Need-nth-number-requires Inv-loop μ-loop
 nth-number-requires c κs = search needs
@@ -35,7 +42,7 @@ mul-t8 : tie.Need-mul-t8 Inv-loop μ-loop
 mul-t8 c = search needs
 
 slice-set-from-words : tie.Need-slice-set-from-words Inv-loop μ-loop
-slice-set-from-words c = search needs
+slice-set-from-words c = omega (arith, same-places (c .before .before .before .before))
 
 add-i : tie.Need-add-i Inv-loop μ-loop
 add-i c = search needs
@@ -47,24 +54,24 @@ loop-again : tie.Need-loop-again Inv-loop μ-loop
 loop-again c =
     let at = c .before .before .before .before in
     let a = at .before .before .args in
-    let ns = numbersAt (a .bytes .now) (a .place) in
-    let number = c .before .nth-number in
     let word = c .word-of in
-    let written = toZ-ofZ w16 (word .result) (sfits-of (word .ok)) ∙ (word .ensures ∙ ap wordOf (number .ensures)) in
-    let count = length-numbers-at (a .bytes .now) (a .place) in
-    (search needs, (search needs, filled-more ns (at .loop .i) (a .words .now) (omega arith) (omega arith) (at .loop .inv .1 .1) written))
+    let written = toZ-ofZ w16 (word .result) (sfits-of (word .ok)) ∙ word .ensures in
+    let is = word-of-place (a .bytes .now) (a .place) (at .loop .i) (c .before .nth-number .ensures) written in
+    let count = length-words-at (a .bytes .now) (a .place) in
+    let (few, placed) = at .loop .inv in
+    (omega arith, placed-next (wordsAt (a .bytes .now) (a .place)) (at .loop .i) _ (omega arith) (omega arith) placed is)
 
 same-length : tie.Need-same-length Inv-loop μ-loop
-same-length c = search needs
+same-length c = same-places (c .before .before)
 
 returns : tie.Need-returns Inv-loop μ-loop
-unfolding filledFrom
+unfolding filledFrom atFront
 returns c =
     let at = c .before .before in
     let a = at .before .before .args in
-    let all : at .loop .i ≡ a .place .count = omega arith in
-    let count = length-numbers-at (a .bytes .now) (a .place) in
-    filled-all (numbersAt (a .bytes .now) (a .place)) (a .place .count) (a .words .now) count (rw all at (at .loop .inv .1 .1))
+    let count = length-words-at (a .bytes .now) (a .place) in
+    let (few, placed) = at .loop .inv in
+    placed-all (wordsAt (a .bytes .now) (a .place)) (at .loop .i) (omega arith) placed .buffer
 
 pub fill-spec : {M : Type 1} → statement M
 fill-spec =

@@ -4,8 +4,8 @@ use native.Mathlib.Omega.{arith}
 use mathlib.Core.Path.{_≡_, sym, _∙_}
 use mathlib.Core.List.{List}
 use Prim.Native.Nat.{ℕ}
-use Rattle.guide.specs.Sizes.{baseLeast, baseMost, seriesMost}
-use Rattle.guide.specs.Reading.{headCount}
+use Rattle.rules.specs.Sizes.{baseLeast, baseMost, seriesMost}
+use Rattle.rules.specs.ReadForm.{headCount}
 use Rattle.store.specs.declared.records.Place.{Place}
 use Rattle.store.specs.declared.records.Found.the-variants as found
 use Rattle.store.specs.Records.{recordAt}
@@ -56,7 +56,8 @@ enum-told c = search needs
 returns : tie.Need-returns
 returns c =
     let a = c .before .before .before .before .args in
-    no-head (a .bytes .now) (c .before .before .find-record .ensures) (c .enum-told .given .1)
+    let (values, is) = c .enum-told .given in
+    no-head (a .bytes .now) (c .before .before .find-record .ensures) is
 
 find-record-requires-2 : tie.Need-find-record-requires-2
 find-record-requires-2 c κs = search needs
@@ -70,7 +71,8 @@ enum-told-2 c = search needs
 returns-2 : tie.Need-returns-2
 returns-2 c =
     let h = c .before .before .before .before in
-    no-base (bytes h) (head h) (found-head h) (c .before .before .find-record2 .ensures) (c .enum-told2 .given .1)
+    let (values, is) = c .enum-told2 .given in
+    no-base (bytes h) (head h) (found-head h) (c .before .before .find-record2 .ensures) is
 
 find-record-requires-3 : tie.Need-find-record-requires-3
 find-record-requires-3 c κs = search needs
@@ -85,8 +87,8 @@ returns-3 : tie.Need-returns-3
 returns-3 c =
     let b = c .before .before .before .before in
     let h = after-head b in
-    no-series (bytes h) (head h) (found-head h) (base b) (found-base b)
-    (c .before .before .find-record3 .ensures) (c .enum-told3 .given .1)
+    let (values, is) = c .enum-told3 .given in
+    no-series (bytes h) (head h) (found-head h) (base b) (found-base b) (c .before .before .find-record3 .ensures) is
 
 returns-4 : tie.Need-returns-4
 returns-4 c =

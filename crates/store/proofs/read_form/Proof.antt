@@ -6,11 +6,11 @@ use borrow.Author.Needs.{needs}
 use native.Mathlib.Omega.{arith}
 use lib.ListN.{length, take}
 use lib.Seq.{length-take-le}
-use Rattle.guide.specs.Reading.{isForm, heldIn}
-use Rattle.guide.proofs.Booleans.{answered-no, answered-yes}
+use Rattle.rules.specs.ReadForm.{isForm, heldIn}
+use Rattle.rules.proofs.Booleans.{answered-no, answered-yes}
 use Rattle.chart.specs.Chart.{stateOf, chartOf}
-use Rattle.store.proofs.Reading.{Laid, laid-out, head-within, head-count, base-within, base-few}
-use Rattle.store.proofs.Reading.{series-within, series-few, filled-room, chart-held, read-unsound, read-done, read-declined}
+use Rattle.store.proofs.Reading.{Laid, laid-out, head-there, base-there, series-there, filled-room, chart-held}
+use Rattle.store.proofs.Reading.{read-unsound, read-done, read-declined}
 use Rattle.store.proofs.read_form.Statement.{statement}
 use Rattle.store.proofs.read_form.Tie as tie
 
@@ -20,17 +20,20 @@ laid c = laid-out _ _ _ _ (c .pre)
 nth-number-requires : tie.Need-nth-number-requires
 nth-number-requires c κs =
     let start = c .before in
-    (omega (arith, head-count _ _ _ _ (laid start)), head-within _ _ _ _ (laid start))
+    let there = head-there _ _ _ _ (laid start) in
+    (omega (arith, there .enough), there .within)
 
 nth-number-requires-2 : tie.Need-nth-number-requires-2
 nth-number-requires-2 c κs =
     let start = c .before .before in
-    (omega (arith, head-count _ _ _ _ (laid start)), head-within _ _ _ _ (laid start))
+    let there = head-there _ _ _ _ (laid start) in
+    (omega (arith, there .enough), there .within)
 
 nth-number-requires-3 : tie.Need-nth-number-requires-3
 nth-number-requires-3 c κs =
     let start = c .before .before .before in
-    (omega (arith, head-count _ _ _ _ (laid start)), head-within _ _ _ _ (laid start))
+    let there = head-there _ _ _ _ (laid start) in
+    (omega (arith, there .enough), there .within)
 
 slice-aggregate-fill : tie.Need-slice-aggregate-fill
 slice-aggregate-fill c = search needs
@@ -42,7 +45,8 @@ begun c = c .before .before .before .before
 fill-requires : tie.Need-fill-requires
 fill-requires c κs =
     let start = begun (c .before) in
-    (base-few _ _ _ _ (laid start), base-within _ _ _ _ (laid start))
+    let there = base-there _ _ _ _ (laid start) in
+    (there .few, there .within)
 
 slice-aggregate-fill-2 : tie.Need-slice-aggregate-fill-2
 slice-aggregate-fill-2 c = search needs
@@ -50,7 +54,8 @@ slice-aggregate-fill-2 c = search needs
 fill-requires-2 : tie.Need-fill-requires-2
 fill-requires-2 c κs =
     let start = begun (c .before .before .before .before) in
-    (series-few _ _ _ _ (laid start), series-within _ _ _ _ (laid start))
+    let there = series-there _ _ _ _ (laid start) in
+    (there .few, there .within)
 
 -- the base's array has a place for each of the base words, so a slice of that many words can be taken
 base-room : (c : tie.After-fill) → begun (c .before .before) .args .base .count ≤ length (c .fill .last .0)
@@ -74,7 +79,7 @@ slice-aggregate-is-sound-2 c = sym (length-take-le _ _ (filled-room _ _ _ _ (c .
 is-sound-requires : tie.Need-is-sound-requires
 is-sound-requires c κs =
     let filled = c .before .before .before .before .before .before in
-    omega (arith, base-count filled, base-few _ _ _ _ (laid (begun (filled .before .before))))
+    omega (arith, base-count filled, base-there _ _ _ _ (laid (begun (filled .before .before))) .few)
 
 declined-read-requires : tie.Need-declined-read-requires
 declined-read-requires c κs = search needs

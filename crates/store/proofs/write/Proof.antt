@@ -1,6 +1,6 @@
 -- `store::write` meets its contract: 14 first, and then writing of a sound chart.
 use borrow.Author.Needs.{needs}
-use Rattle.guide.proofs.Booleans.{answered-no, answered-yes}
+use Rattle.rules.proofs.Booleans.{answered-no, answered-yes}
 use Rattle.store.proofs.Writing.{write-unsound}
 use Rattle.store.proofs.write.Statement.{statement}
 use Rattle.store.proofs.write.Tie as tie

@@ -2,7 +2,7 @@
 use borrow.Author.Needs.{needs}
 use mathlib.Core.Path.{_≡_}
 use lib.ListN.{length}
-use Rattle.guide.specs.Sizes.{baseMost, seriesMost}
+use Rattle.rules.specs.Sizes.{baseMost, seriesMost}
 use Rattle.store.specs.Store.{Writes}
 use Rattle.store.specs.declared.WriteAnswer.the-variants.{Done}
 use Rattle.store.proofs.Returning.{written-fits, written-count, returned, not-written}

@@ -2,7 +2,6 @@
 use borrow.Author.Needs.{needs}
 use native.Mathlib.Omega.{arith}
 use Rattle.chart.proofs.State.{Given, given}
-use Rattle.store.specs.Store.{recordSize, formSize}
 use Rattle.store.proofs.Writing.{write-short, write-done}
 use Rattle.store.proofs.write_sound.Statement.{statement}
 use Rattle.store.proofs.write_sound.Tie as tie
@@ -16,13 +15,11 @@ form-size-requires c κs =
     (omega (arith, within .base-few), omega (arith, within .series-few))
 
 returns : tie.Need-returns
-unfolding formSize recordSize
 returns c =
     let start = c .before .before .before in
     write-short _ (facts start) _ (start .pre) (omega (arith, c .if1 .taken, c .before .form-size .ensures))
 
 put-form-requires : tie.Need-put-form-requires
-unfolding formSize recordSize
 put-form-requires c κs =
     let tested = c .before in
     let start = tested .before .before .before in
@@ -32,7 +29,6 @@ same-length : tie.Need-same-length
 same-length c = search needs
 
 returns-2 : tie.Need-returns-2
-unfolding formSize recordSize
 returns-2 c =
     let put = c .before .before in
     let tested = put .before .before in

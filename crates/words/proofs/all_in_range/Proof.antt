@@ -3,10 +3,10 @@ use mathlib.Core.Path.{sym}
 use native.Mathlib.Omega.{arith}
 use borrow.Author.Needs.{needs, sfits-of}
 use denote.Ref.{now}
-use Rattle.guide.specs.Kind.{inRange}
-use Rattle.guide.specs.Building.{allInRange}
-use Rattle.guide.proofs.AllOf.{all-none}
-use Rattle.guide.proofs.PassesBetween.{in-range-between}
+use Rattle.rules.specs.Kind.{inRange}
+use Rattle.rules.specs.Building.{allInRange}
+use Rattle.rules.proofs.AllOf.{all-none}
+use Rattle.rules.proofs.PassesBetween.{in-range-between}
 use Rattle.extremes.proofs.Picking.{answers-decide}
 use Rattle.words.proofs.all_in_range.Statement.{statement}
 use Rattle.words.proofs.all_in_range.Tie as tie

@@ -1,8 +1,8 @@
 -- `words::are_readings` meets its contract.
 use borrow.Author.Needs.{needs}
 use mir.Facts.{toZ-ofZ}
-use Rattle.guide.specs.Kind.{ignoresThird}
-use Rattle.guide.specs.Word.{areReadings}
+use Rattle.rules.specs.Kind.{ignoresThird}
+use Rattle.rules.specs.Word.{areReadings}
 use Rattle.words.proofs.are_readings.Statement.{statement}
 use Rattle.words.proofs.are_readings.Tie as tie
 

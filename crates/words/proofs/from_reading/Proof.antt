@@ -8,19 +8,20 @@ use borrow.Author.Tests.{eq-eqb, ne-eqb, not-true, not-false}
 use mir.Syntax.{w16, w64}
 use mir.Val.{SFits}
 use mir.Facts.{toZ-ofZ}
-use Rattle.guide.specs.Choice.{require}
-use Rattle.guide.specs.Kind.{inRange}
-use Rattle.guide.specs.Word.{formed, refused, areReadings, roundedQuotient, fromReading}
+use Rattle.rules.specs.Outcome.{given, refused}
+use Rattle.rules.specs.Choice.{require}
+use Rattle.rules.specs.Kind.{inRange}
+use Rattle.rules.specs.Word.{areReadings, roundedQuotient, fromReading}
 use Rattle.words.specs.Formed.{formedSays, IsQuotient}
-use Rattle.guide.proofs.Booleans.{answered-no, answered-yes}
-use Rattle.guide.proofs.Kind.{in-range-fits}
+use Rattle.rules.proofs.Booleans.{answered-no, answered-yes}
+use Rattle.rules.proofs.Kind.{in-range-fits}
 use Rattle.words.proofs.Readings.{numerator-is}
 use Rattle.words.proofs.from_reading.Statement.{statement}
 use Rattle.words.proofs.from_reading.Tie as tie
 
 -- a definition of the paper, at the function's arguments
-abbrev given {ℓ} : {X : Type ℓ} → (ℕ → ℤ → ℤ → ℤ → X) → tie.Start → X
-given f start = f (start .args .kind) (start .args .a) (start .args .b) (start .args .c)
+abbrev at-args {ℓ} : {X : Type ℓ} → (ℕ → ℤ → ℤ → ℤ → X) → tie.Start → X
+at-args f start = f (start .args .kind) (start .args .a) (start .args .b) (start .args .c)
 
 abbrev quotient-at : tie.After-in-range → tie.After-quotient-of
 quotient-at c = c .before .before .before .before
@@ -29,15 +30,15 @@ abbrev start-at : tie.After-in-range → tie.Start
 start-at c = quotient-at c .before .before .before
 
 -- what the calls and the tests say about the arguments
-readings-tested : (c : tie.After-are-readings) → c .are-readings .result ≡ given areReadings (c .before)
+readings-tested : (c : tie.After-are-readings) → c .are-readings .result ≡ at-args areReadings (c .before)
 readings-tested c =
     let fits = c .before .fits in
     rw (toZ-ofZ (fits .a), toZ-ofZ (fits .b), toZ-ofZ (fits .c)) at (c .are-readings .ensures)
 
-readings-hold : (c : tie.Else1) → given areReadings (c .before .before) ≡ true
+readings-hold : (c : tie.Else1) → at-args areReadings (c .before .before) ≡ true
 readings-hold c = answered-yes (readings-tested (c .before)) (c .if1 .left)
 
-is-quotient : (c : tie.After-quotient-of) → given IsQuotient (c .before .before .before) (c .quotient-of .result)
+is-quotient : (c : tie.After-quotient-of) → at-args IsQuotient (c .before .before .before) (c .quotient-of .result)
 is-quotient c =
     let fits = c .before .before .before .fits in
     rw (toZ-ofZ (fits .a), toZ-ofZ (fits .b), toZ-ofZ (fits .c)) at (c .quotient-of .ensures)
@@ -50,7 +51,7 @@ range-tested c = rw (toZ-ofZ (word-fits (c .before))) at (c .in-range .ensures)
 
 -- if 5 and 6 do not apply, the test of the range decides
 answer : (c : tie.After-in-range)
-    → given fromReading (start-at c) ≡ require (c .in-range .result) (refused 7) (formed (c .before .nearest .result))
+    → at-args fromReading (start-at c) ≡ require (c .in-range .result) (refused 7) (given (c .before .nearest .result))
 unfolding fromReading roundedQuotient
 answer c =
     let q = quotient-at c in

@@ -1,8 +1,8 @@
 -- `words::in_range` meets its contract.
 use borrow.Author.Tests.{eq-eqb, ne-eqb}
 use mir.Facts.{toZ-ofZ}
-use Rattle.guide.specs.Kind.{inRange}
-use Rattle.guide.proofs.Kind.{least-of-duplicates, least-of-others}
+use Rattle.rules.specs.Kind.{inRange}
+use Rattle.rules.proofs.Kind.{least-of-duplicates, least-of-others}
 use Rattle.words.proofs.in_range.Statement.{statement}
 use Rattle.words.proofs.in_range.Tie as tie
 

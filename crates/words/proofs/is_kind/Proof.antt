@@ -1,6 +1,6 @@
 -- `words::is_kind` meets its contract.
 use mathlib.Core.Path.{refl}
-use Rattle.guide.specs.Kind.{isKind}
+use Rattle.rules.specs.Kind.{isKind}
 use Rattle.words.proofs.is_kind.Statement.{statement}
 use Rattle.words.proofs.is_kind.Tie as tie
 

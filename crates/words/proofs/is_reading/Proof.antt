@@ -1,6 +1,6 @@
 -- `words::is_reading` meets its contract.
 use mir.Facts.{toZ-ofZ}
-use Rattle.guide.specs.Word.{isReading}
+use Rattle.rules.specs.Word.{isReading}
 use Rattle.words.proofs.is_reading.Statement.{statement}
 use Rattle.words.proofs.is_reading.Tie as tie
 

@@ -6,10 +6,10 @@ use mir.Syntax.{w64}
 use mir.Val.{SFits, toZ}
 use mir.Facts.{toZ-ofZ, toZ-pos}
 use borrow.Author.Needs.{needs}
-use Rattle.guide.specs.Word.{nearest}
-use Rattle.guide.proofs.Integers.{magnitude-negated}
-use Rattle.guide.proofs.Held.{small-fits}
-use Rattle.guide.proofs.Word.{nearest-negative}
+use Rattle.rules.specs.Word.{nearest}
+use Rattle.rules.proofs.Integers.{magnitude-negated}
+use Rattle.rules.proofs.Held.{small-fits}
+use Rattle.rules.proofs.Word.{nearest-negative}
 use Rattle.words.proofs.nearest.Statement.{statement}
 use Rattle.words.proofs.nearest.Tie as tie
 

@@ -3,7 +3,7 @@ use Prim.Native.Nat.{_+_, _/_, _≤_}
 use native.Mathlib.Nat.{div-le-self, mod-lt}
 use native.Mathlib.Omega.{arith}
 use borrow.Author.Needs.{needs}
-use Rattle.guide.proofs.Word.{rounds-down, rounds-up, one-more-small}
+use Rattle.rules.proofs.Word.{rounds-down, rounds-up, one-more-small}
 use Rattle.words.proofs.nearest_natural.Statement.{statement}
 use Rattle.words.proofs.nearest_natural.Tie as tie
 

@@ -2,7 +2,7 @@
 use borrow.Author.Needs.{needs}
 use borrow.Author.Tests.{ne-eqb}
 use mir.Facts.{toZ-ofZ}
-use Rattle.guide.specs.Kind.{ignoresThird}
+use Rattle.rules.specs.Kind.{ignoresThird}
 use Rattle.words.specs.Formed.{ReadingIs}
 use Rattle.words.proofs.Readings.{AllReadings, all-readings, duplicate-quotient, check-quotient, spike-quotient}
 use Rattle.words.proofs.quotient_of.Statement.{statement}

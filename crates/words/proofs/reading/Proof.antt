@@ -8,13 +8,13 @@ use Rattle.words.proofs.reading.Tie as tie
 
 cast-result : tie.Need-cast-result
 cast-result c =
-    let natural = reading-natural (c .args .x) (c .pre) in
-    rw (toZ-ofZ (c .fits .x)) (natural .0, omega arith)
+    let is = reading-natural (c .args .x) (c .pre) in
+    rw (toZ-ofZ (c .fits .x)) (is .natural, omega (arith, is .small))
 
 returns : tie.Need-returns
 returns c =
-    let natural = reading-natural (c .args .x) (c .pre) in
-    rw (toZ-ofZ (c .fits .x)) (record { same = pos-natAbs (c .args .x) (natural .0); small = natural .1 })
+    let is = reading-natural (c .args .x) (c .pre) in
+    rw (toZ-ofZ (c .fits .x)) (record { same = pos-natAbs (c .args .x) (is .natural); small = is .small })
 
 pub reading-spec : {M : Type 1} → statement M
 reading-spec = tie.close (tie.spec cast-result returns)

@@ -1,8 +1,8 @@
 -- `words::word` meets its contract.
 use borrow.Author.Needs.{needs}
-use Rattle.guide.proofs.Booleans.{answered-no, answered-yes}
+use Rattle.rules.proofs.Booleans.{answered-no, answered-yes}
 use mir.Facts.{toZ-ofZ}
-use Rattle.guide.specs.Word.{wordAlone}
+use Rattle.rules.specs.Word.{wordAlone}
 use Rattle.words.specs.Formed.{formedSays}
 use Rattle.words.proofs.word.Statement.{statement}
 use Rattle.words.proofs.word.Tie as tie

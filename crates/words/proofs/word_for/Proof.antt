@@ -2,7 +2,7 @@
 use borrow.Author.Needs.{needs}
 use borrow.Author.Tests.{eq-eqb, ne-eqb}
 use mir.Facts.{toZ-ofZ}
-use Rattle.guide.specs.Machine.{wordFor}
+use Rattle.rules.specs.Machine.{wordFor}
 use Rattle.words.specs.Formed.{formedSays}
 use Rattle.words.proofs.word_for.Statement.{statement}
 use Rattle.words.proofs.word_for.Tie as tie

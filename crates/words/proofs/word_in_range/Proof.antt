@@ -1,8 +1,8 @@
 -- `words::word_in_range` meets its contract.
 use mathlib.Core.Path.{ap, _∙_}
 use borrow.Author.Needs.{needs}
-use Rattle.guide.specs.Kind.{inRange}
-use Rattle.guide.proofs.Held.{cast-word, cast-fits}
+use Rattle.rules.specs.Kind.{inRange}
+use Rattle.rules.proofs.Held.{cast-word, cast-fits}
 use Rattle.words.proofs.word_in_range.Statement.{statement}
 use Rattle.words.proofs.word_in_range.Tie as tie
 

@@ -6,25 +6,19 @@ use Rattle.cases.proofs.listed.each_number.Statement.{statement}
 use Rattle.cases.proofs.listed.each_number.Tie as tie
 
 abbrev Inv-loop : tie.InvT-loop
-Inv-loop numbers i₀ t4 t5 i = i ≤ length numbers
+Inv-loop numbers i₀ t4 i = i ≤ length numbers
 
 abbrev μ-loop : tie.MeasureT-loop
-μ-loop numbers i₀ t4 t5 i = length numbers - i
+μ-loop numbers i₀ t4 i = length numbers - i
+
+loop-holds : tie.Need-loop-holds Inv-loop μ-loop
+loop-holds c = search needs
 
 slice-aggregate-text : tie.Need-slice-aggregate-text Inv-loop μ-loop
 slice-aggregate-text c = search needs
 
 text-requires : tie.Need-text-requires Inv-loop μ-loop
 text-requires c κs = search needs
-
-loop-holds : tie.Need-loop-holds Inv-loop μ-loop
-loop-holds c = search needs
-
-slice-aggregate-text-2 : tie.Need-slice-aggregate-text-2 Inv-loop μ-loop
-slice-aggregate-text-2 c = search needs
-
-text-requires-2 : tie.Need-text-requires-2 Inv-loop μ-loop
-text-requires-2 c κs = search needs
 
 mul-signed : tie.Need-mul-signed Inv-loop μ-loop
 mul-signed c = search needs
@@ -44,12 +38,6 @@ loop-less c = search needs
 loop-again : tie.Need-loop-again Inv-loop μ-loop
 loop-again c = search needs
 
-slice-aggregate-text-3 : tie.Need-slice-aggregate-text-3 Inv-loop μ-loop
-slice-aggregate-text-3 c = search needs
-
-text-requires-3 : tie.Need-text-requires-3 Inv-loop μ-loop
-text-requires-3 c κs = search needs
-
 returns : tie.Need-returns Inv-loop μ-loop
 returns c = search needs
 
@@ -59,17 +47,13 @@ each-number-spec =
     (tie.spec
     Inv-loop
     μ-loop
+    loop-holds
     slice-aggregate-text
     text-requires
-    loop-holds
-    slice-aggregate-text-2
-    text-requires-2
     mul-signed
     shared-slice-copy-out-signed
     signed-requires
     add-i
     loop-less
     loop-again
-    slice-aggregate-text-3
-    text-requires-3
     returns)

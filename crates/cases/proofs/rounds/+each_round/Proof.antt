@@ -49,7 +49,9 @@ module _ (t : ℕ) where
   round-requires : each-round-lts.Need-round-requires (claims t) (each-round-at t) each-round.Post
   round-requires c κs =
       let start = c .before in
-      (start .pre .1 .0, can-remove-own (start .args .kind) (words start) (start .args .sums) (start .pre .1 .1))
+      let (measure, given) = start .pre in
+      let (few, own) = given in
+      (few, can-remove-own (start .args .kind) (words start) (start .args .sums) own)
 
   slice-aggregate-text : each-round-lts.Need-slice-aggregate-text (claims t) (each-round-at t) each-round.Post
   slice-aggregate-text c = search needs
@@ -62,11 +64,13 @@ module _ (t : ℕ) where
       let removed = c .before .before .before in
       let round = removed .before .before in
       let start = round .before .before in
-      let a = start .args in (
-        omega (arith, removed .if1 .taken, start .pre .0),
+      let a = start .args in
+      let (measure, given) = start .pre in
+      let (few, own) = given in (
+        omega (arith, removed .if1 .taken, measure),
         (
-          omega (arith, removed .if1 .taken, start .pre .1 .0),
-          hands-on-sums (a .kind) (words start) (a .sums) (start .pre .1 .1) (round .round .result) (round .round .ensures),
+          omega (arith, removed .if1 .taken, few),
+          hands-on-sums (a .kind) (words start) (a .sums) own (round .round .result) (round .round .ensures),
         ),
       )
 

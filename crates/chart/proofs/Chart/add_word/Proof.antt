@@ -15,10 +15,10 @@ add-self : tie.Need-add-self
 add-self c = search needs
 
 sound-self : (c : tie.Start) → Given (c .args .t1)
-sound-self c = given (c .args .t1) (search needs) (search needs) (c .pre .0)
+sound-self c = given (c .args .t1) (search needs) (search needs) (c .pre .sound)
 
 returns : tie.Need-returns
-returns c = rw (toZ-ofZ (c .fits .w)) (word-added (c .args .t1) (sound-self c) (c .args .w) (c .pre .1))
+returns c = rw (toZ-ofZ (c .fits .w)) (word-added (c .args .t1) (sound-self c) (c .args .w) (c .pre .room))
 
 pub add-word-spec : {M : Type 1} → statement M
 add-word-spec = tie.close (tie.spec mul-w element-set-from-w add-self returns)

@@ -4,13 +4,13 @@ use Prim.Native.Nat.{_≤_}
 use borrow.Author.Needs.{needs}
 use denote.Ref.{now}
 use lib.ListN.{length}
-use Rattle.guide.specs.Sizes.{baseMost}
-use Rattle.guide.specs.Rejection.{rejection}
-use Rattle.guide.specs.Building.{buildRefusal}
-use Rattle.guide.proofs.Soundness.{can-build}
+use Rattle.rules.specs.Sizes.{baseMost}
+use Rattle.rules.specs.Rejection.{rejection}
+use Rattle.rules.specs.Building.{buildRefusal}
+use Rattle.rules.proofs.Soundness.{can-build}
 use Rattle.chart.specs.Rejection.{IsRejection}
 use Rattle.chart.proofs.Rounds.{rejected-front}
-use Rattle.chart.proofs.Building.{build-declined, build-too-few, build-accepted}
+use Rattle.chart.proofs.Builds.{build-declined, build-too-few, build-accepted}
 use Rattle.chart.proofs.Chart.build.Statement.{statement}
 use Rattle.chart.proofs.Chart.build.Tie as tie
 
@@ -22,10 +22,7 @@ not-built-requires c κs = search needs
 
 returns : tie.Need-returns
 returns c =
-    let start = c .before .before .before in
-    let number = c .before .before .build-refusal in
-    build-declined (start .args .kind) (now (start .args .words)) (number .result) (c .not-built .result)
-    (number .ensures) (c .before .if1 .taken) (c .not-built .ensures)
+    build-declined (c .before .before .build-refusal .ensures) (c .before .if1 .taken) (c .not-built .ensures)
 
 -- no refusal comes before rejection, so there are no more words than a base has places
 none : (c : tie.Else1) → let a = c .before .before .args in buildRefusal (a .kind) (now (a .words)) ≡ 0
@@ -53,9 +50,7 @@ rejected c =
 returns-2 : tie.Need-returns-2
 returns-2 c =
     let r = c .before .before .before .before in
-    let a = r .before .before .before .before .args in
-    build-too-few (a .kind) (now (a .words)) (r .reject .result) (none (r .before .before)) (rejected r) (c .before .if2 .taken)
-    (c .not-built2 .result) (c .not-built2 .ensures)
+    build-too-few (none (r .before .before)) (rejected r) (c .before .if2 .taken) (c .not-built2 .ensures)
 
 fresh-chart-requires : tie.Need-fresh-chart-requires
 fresh-chart-requires c κs = search needs
@@ -63,9 +58,7 @@ fresh-chart-requires c κs = search needs
 returns-3 : tie.Need-returns-3
 returns-3 c =
     let r = c .before .before .before .before .before in
-    let a = r .before .before .before .before .args in
-    build-accepted (a .kind) (now (a .words)) (r .reject .result) (none (r .before .before)) (rejected r) (c .before .before .if2 .left)
-    (c .fresh-chart .result) (c .fresh-chart .ensures)
+    build-accepted (none (r .before .before)) (rejected r) (c .before .before .if2 .left) (c .fresh-chart .ensures)
 
 pub build-spec : {M : Type 1} → statement M
 build-spec =

@@ -32,7 +32,7 @@ reject-tail-requires c κs = search needs
 
 returns : tie.Need-returns
 unfolding stateOf
-returns c = c .reject-tail .ensures
+returns c = search needs
 
 pub renewal-rejection-spec : {M : Type 1} → statement M
 renewal-rejection-spec =

@@ -1,6 +1,6 @@
 -- `chart::Chart::sound` meets its contract: it decides soundness.
 use borrow.Author.Needs.{needs}
-use Rattle.guide.proofs.Booleans.{answered-no, answered-yes}
+use Rattle.rules.proofs.Booleans.{answered-no, answered-yes}
 use Rattle.chart.specs.Soundness.{soundChart}
 use Rattle.chart.proofs.SoundCharts.{places-few}
 use Rattle.chart.proofs.Chart.sound.Statement.{statement}

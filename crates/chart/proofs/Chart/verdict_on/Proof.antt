@@ -11,15 +11,15 @@ use lib.IntN.{ℤ}
 use mir.Syntax.{w16}
 use mir.Val.{toZ, ofZ}
 use mir.Facts.{toZ-ofZ}
-use Rattle.guide.specs.State.{limitsFor, addWord}
-use Rattle.guide.specs.Verdict.{verdict}
+use Rattle.rules.specs.State.{limitsFor, addWord}
+use Rattle.rules.specs.Verdict.{verdict}
 use Rattle.chart.specs.Chart.{stateOf}
 use Rattle.chart.proofs.State.{Given, given}
 use Rattle.chart.proofs.Chart.verdict_on.Statement.{statement}
 use Rattle.chart.proofs.Chart.verdict_on.Tie as tie
 
 sound-self : (c : tie.Start) → Given (c .args .self)
-sound-self c = given (c .args .self) (search needs) (search needs) (c .pre .0)
+sound-self c = given (c .args .self) (search needs) (search needs) (c .pre .sound)
 
 limits-requires : tie.Need-limits-requires
 limits-requires c κs = search needs
@@ -41,7 +41,7 @@ room : (c : tie.Start) → c .args .self .«series_len» + 1 ≤ length (places 
 room c =
     let self = c .args .self in
     let same = length-set (self .series) (self .«series_len») (toZ w16 (ofZ w16 (c .args .w))) in
-    omega (arith, same, sound-self c .within .series-places, c .pre .1)
+    omega (arith, same, sound-self c .within .series-places, c .pre .room)
 
 array-share-prefix-series : tie.Need-array-share-prefix-series
 array-share-prefix-series c = omega (arith, room (c .before .before))
@@ -61,7 +61,7 @@ unfolding addWord stateOf
 judged c =
     let self = c .args .self in
     let i = self .«series_len» in
-    let some : i < length (self .series) = omega (arith, sound-self c .within .series-places, c .pre .1) in
+    let some : i < length (self .series) = omega (arith, sound-self c .within .series-places, c .pre .room) in
     rw (toZ-ofZ (c .fits .w), add-one) (take-suc-set (self .series) i (c .args .w) some)
 
 returns : tie.Need-returns

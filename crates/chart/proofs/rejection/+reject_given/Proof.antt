@@ -2,7 +2,7 @@
 -- next call is given n, T and Q of the words then standing (`hands-on-sums`).
 use mathlib.Core.Path.{_≡_, sym, _∙_}
 use mathlib.Core.List.{List}
-use Prim.Native.Nat.{ℕ, _+_, _<_, _≤_}
+use Prim.Native.Nat.{ℕ, _<_}
 use native.Mathlib.Omega.{arith}
 use lib.ListN.{length, take, length-take}
 use lib.Seq.{length-take-le}
@@ -10,10 +10,10 @@ use lib.IntN.{ℤ}
 use borrow.Author.Needs.{needs}
 use borrow.Fn.Kinds.{In}
 use borrow.Fn.PlainCycle.{Measures, is, falls, and}
-use Rattle.guide.specs.Sizes.{baseMost}
-use Rattle.guide.specs.Rejection.{afterRound}
-use Rattle.chart.specs.Rejection.{Holds}
-use Rattle.chart.proofs.Rounds.{can-remove-own, leaves, hands-on-sums, rejects-last, rejects-more, fewer, few-rounds}
+use Rattle.rules.specs.Sizes.{baseMost}
+use Rattle.rules.specs.Rejection.{afterRound}
+use Rattle.chart.specs.Rejection.{HoldsWords, WithOwnSums}
+use Rattle.chart.proofs.Rounds.{can-remove-own, leaves, hands-on-sums, rejects-last, rejects-more, fewer, Few, few-rounds}
 use Rattle.chart.proofs.rejection.reject_given.Reads as reject
 use Rattle.chart.proofs.rejection.reject_given.Kinds as reject-kinds
 use Rattle.chart.proofs.rejection.+reject_given.Lts-reject_given as reject-lts
@@ -35,24 +35,27 @@ abbrev claims : ℕ → reject-lts.Claims
 claims t = (round-reads.Asked, round-reads.Learnt, reject-below t, reject.Post)
 
 module _ (t : ℕ) where
-  -- the words given, and their number
+  -- the words given, with their own sums, and their number
+  own : (c : reject-lts.Start (claims t) (reject-at t) reject.Post) → WithOwnSums (c .args .n) (c .args .words) (c .args .sums)
+  own c = c .pre .1
+
   abbrev words : reject-lts.Start (claims t) (reject-at t) reject.Post → List ℤ
   words c = take (c .args .n) (c .args .words)
 
   count : (c : reject-lts.Start (claims t) (reject-at t) reject.Post) → length (words c) ≡ c .args .n
   count c =
       let all : length (c .args .words) ≡ baseMost = search needs in
-      length-take-le (c .args .n) (c .args .words) (omega (arith, c .pre .1 .0))
+      length-take-le (c .args .n) (c .args .words) (omega (arith, own c .few))
 
   round-requires : reject-lts.Need-round-requires (claims t) (reject-at t) reject.Post
-  round-requires c κs = (c .pre .1 .0, can-remove-own (c .args .kind) (words c) (c .args .sums) (c .pre .1 .1))
+  round-requires c κs = (own c .few, can-remove-own (c .args .kind) (words c) (c .args .sums) (own c .own))
 
   -- the round left the words that document 01's round leaves
   left-words : (c : reject-lts.After-round (claims t) (reject-at t) reject.Post)
-      → Holds (afterRound (c .before .args .kind) (words (c .before))) (c .round .result .left)
+      → HoldsWords (afterRound (c .before .args .kind) (words (c .before))) (c .round .result .left)
   left-words c =
       let a = c .before .args in
-      leaves (a .kind) (words (c .before)) (a .sums) (c .before .pre .1 .1) (c .round .result) (c .round .ensures)
+      leaves (a .kind) (words (c .before)) (a .sums) (own (c .before) .own) (c .round .result) (c .round .ensures)
 
   returns : reject-lts.Need-returns (claims t) (reject-at t) reject.Post
   returns c =
@@ -78,25 +81,24 @@ module _ (t : ℕ) where
       let start = round .before in
       let a = start .args in (
         omega (arith, left-fewer (c .before), start .pre .0),
-        (
-          omega (arith, left-fewer (c .before), start .pre .1 .0),
-          hands-on-sums (a .kind) (words start) (a .sums) (start .pre .1 .1) (round .round .result) (round .round .ensures),
-        ),
+        record {
+          few = omega (arith, left-fewer (c .before), own start .few);
+          own = hands-on-sums (a .kind) (words start) (a .sums) (own start .own) (round .round .result) (round .round .ensures);
+        },
       )
 
   -- the rounds after it, and their removals, are few
   small : (c : reject-lts.After-reject-given (claims t) (reject-at t) reject.Post)
-      → (c .reject-given .result .rounds ≤ baseMost + 1) × (c .reject-given .result .removed ≤ baseMost)
+      → Few baseMost (c .reject-given .result)
   small c =
       let other = c .before .before in
       let left = other .before .before .round .result .left in
       let start = other .before .before .before in
-      let few = few-rounds (start .args .kind) (take (left .n) (left .words)) (c .reject-given .result) (c .reject-given .ensures) in
-      let length = length-take (left .n) (left .words) in
-      (omega (arith, few .rounds, left-fewer other, start .pre .1 .0), omega (arith, few .removed, left-fewer other, start .pre .1 .0))
+      few-rounds (start .args .kind) (take (left .n) (left .words)) (c .reject-given .result) (c .reject-given .ensures) baseMost
+      (omega (arith, length-take (left .n) (left .words), left-fewer other, own start .few))
 
   add-t12 : reject-lts.Need-add-t12 (claims t) (reject-at t) reject.Post
-  add-t12 c = omega (arith, small (c .before .before) .0)
+  add-t12 c = omega (arith, small (c .before .before) .rounds)
 
   sub-t13 : reject-lts.Need-sub-t13 (claims t) (reject-at t) reject.Post
   sub-t13 c = omega (arith, left-fewer (c .before .before .before .before))
@@ -104,7 +106,7 @@ module _ (t : ℕ) where
   add-t14 : reject-lts.Need-add-t14 (claims t) (reject-at t) reject.Post
   add-t14 c =
       let again = c .before .before .before in
-      omega (arith, small again .1, again .before .before .before .before .before .pre .1 .0)
+      omega (arith, small again .removed, own (again .before .before .before .before .before) .few)
 
   returns-2 : reject-lts.Need-returns-2 (claims t) (reject-at t) reject.Post
   returns-2 c =

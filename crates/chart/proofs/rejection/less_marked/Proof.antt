@@ -2,7 +2,7 @@
 use mathlib.Core.Path.{_≡_, ap, _∙_}
 use mathlib.Core.Logic.{⊎-elim}
 use mathlib.Core.List.{[], _∷_}
-use Prim.Native.Nat.{_+_, _-_, _≤_}
+use Prim.Native.Nat.{_-_, _≤_}
 use native.Mathlib.Omega.{arith}
 use borrow.Author.Needs.{needs, sfits-of}
 use lib.ListN.{length, getD}
@@ -10,28 +10,28 @@ use lib.IntN.{ℤ, pos}
 use mir.Syntax.{w16}
 use mir.Val.{toZ, ofZ}
 use mir.Facts.{toZ-ofZ}
-use Rattle.guide.specs.Sizes.{baseMost}
-use Rattle.guide.specs.Carried.{lessWords}
+use Rattle.rules.specs.Sizes.{baseMost}
+use Rattle.rules.specs.Carried.{lessWords}
 use Rattle.limits.specs.Sums.{sumsSay}
 use Rattle.chart.proofs.Marks.{Taken, none-taken, can-take, turn-taken, turn-not-taken, all-taken}
 use Rattle.chart.proofs.rejection.less_marked.Statement.{statement}
 use Rattle.chart.proofs.rejection.less_marked.Tie as tie
 
 abbrev Inv-loop : tie.InvT-loop
-Inv-loop n words marks less₀ i₀ less i = (i ≤ n) × Taken marks words n less₀ i less
+Inv-loop n words marks less₀ i₀ less i = Taken marks words n less₀ i less
 
 abbrev μ-loop : tie.MeasureT-loop
 μ-loop n words marks less₀ i₀ less i = n - i
 
 -- the first n places have words, and marks
 many-words : (c : tie.Start Inv-loop μ-loop) → c .args .n ≤ length (c .args .t2)
-many-words c = let all : length (c .args .t2) ≡ baseMost = search needs in omega (arith, c .pre .0)
+many-words c = let all : length (c .args .t2) ≡ baseMost = search needs in omega (arith, c .pre .few)
 
 many-marks : (c : tie.Start Inv-loop μ-loop) → c .args .n ≤ length (c .args .t4)
-many-marks c = let all : length (c .args .t4) ≡ baseMost = search needs in omega (arith, c .pre .0)
+many-marks c = let all : length (c .args .t4) ≡ baseMost = search needs in omega (arith, c .pre .few)
 
 loop-holds : tie.Need-loop-holds Inv-loop μ-loop
-loop-holds c = (omega arith, none-taken (c .args .t4) (c .args .t2) (c .args .n) (c .args .sums) (many-marks c) (many-words c) (c .pre .1))
+loop-holds c = none-taken (c .args .t4) (c .args .t2) (c .args .n) (c .args .sums) (many-marks c) (many-words c) (c .pre .removable)
 
 array-read-if1 : tie.Need-array-read-if1 Inv-loop μ-loop
 array-read-if1 c = omega arith
@@ -54,8 +54,8 @@ without-word-requires c κs =
     let a = start .args in
     let l = c .before .before .before .loop in
     rw (held c)
-    (can-take (a .t4) (a .t2) (a .n) (a .sums) (many-marks start) (many-words start) (l .i) (l .less)
-    (c .before .before .loop-test .taken) (l .inv .1) (c .before .if1 .taken))
+    (can-take (a .t4) (a .t2) (a .n) (a .sums) (many-marks start) (many-words start) (c .before .before .loop-test .taken) (l .inv)
+    (c .before .if1 .taken))
 
 add-i : tie.Need-add-i Inv-loop μ-loop
 add-i c = omega arith
@@ -69,21 +69,17 @@ loop-again c =
     let a = start .args in
     let l = c .before .before .loop in
     let test = c .before .loop-test .taken in
-    let turn : Taken (a .t4) (a .t2) (a .n) (a .sums) (l .i + 1) (c .if1 .less) = ⊎-elim
-    (λ v. turn-taken (a .t4) (a .t2) (a .n) (a .sums) (many-marks start) (many-words start) (l .i) (l .less) test (l .inv .1)
-    (v .0 .taken) (c .if1 .less)
+    ⊎-elim
+    (λ v. turn-taken (a .t4) (a .t2) (a .n) (a .sums) (many-marks start) (many-words start) test (l .inv) (v .0 .taken)
     (ap sumsSay (v .3) ∙ v .2 .ensures ∙ ap (λ (w : ℤ). lessWords (sumsSay (l .less)) (w ∷ [])) (toZ-ofZ (sfits-of (v .1 .given)))))
-    (λ v. turn-not-taken (a .t4) (a .t2) (a .n) (a .sums) (many-marks start) (many-words start) (l .i) (l .less) test (l .inv .1)
-    (v .0 .left) (c .if1 .less) (v .1))
-    (c .if1 .came) in
-    (omega arith, turn)
+    (λ v. turn-not-taken (a .t4) (a .t2) (a .n) (a .sums) (many-marks start) (many-words start) test (l .inv) (v .0 .left) (v .1))
+    (c .if1 .came)
 
 returns : tie.Need-returns Inv-loop μ-loop
 returns c =
     let start = c .before .before in
     let a = start .args in
-    let l = c .before .loop in
-    all-taken (a .t4) (a .t2) (a .n) (a .sums) (many-marks start) (many-words start) (l .i) (l .less) (omega arith) (l .inv .1)
+    all-taken (a .t4) (a .t2) (a .n) (a .sums) (many-marks start) (many-words start) (omega arith) (c .before .loop .inv)
 
 pub less-marked-spec : {M : Type 1} → statement M
 less-marked-spec =

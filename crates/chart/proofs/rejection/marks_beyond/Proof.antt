@@ -1,34 +1,31 @@
 -- `chart::rejection::marks_beyond` meets its contract. The loop's invariant: the marks of the words before i are in place.
-use mathlib.Core.Path.{_≡_, refl, sym, ap, _∙_}
+use mathlib.Core.Path.{_≡_, sym, ap, _∙_}
 use mathlib.Core.Bool.{Bool, false}
 use mathlib.Core.List.{List, map}
-use Prim.Native.Nat.{_-_, _≤_}
+use Prim.Native.Nat.{_-_}
 use native.Mathlib.Omega.{arith}
 use borrow.Author.Needs.{needs, sfits-of}
 use lib.ListN.{length, take, getD, length-map, List·getD-map}
-use lib.Seq.{take-all, length-take-le, getD-take}
+use lib.Seq.{length-take-le, getD-take}
 use lib.IntN.{ℤ, pos}
 use mir.Syntax.{w16}
 use mir.Val.{SFits}
 use mir.Facts.{toZ-ofZ}
-use Rattle.guide.specs.Sizes.{baseMost}
-use Rattle.guide.specs.Limits.{beyondControl}
+use Rattle.rules.specs.Sizes.{baseMost}
+use Rattle.rules.specs.Limits.{beyondControl}
 use Rattle.limits.specs.Sums.{limitsSay}
-use Rattle.chart.specs.Pad.{pad}
-use Rattle.chart.proofs.Places.{pad-next}
+use Rattle.chart.proofs.Places.{Copied, copied-none, copied-next, copied-all}
 use Rattle.chart.proofs.rejection.marks_beyond.Statement.{statement}
 use Rattle.chart.proofs.rejection.marks_beyond.Tie as tie
 
 abbrev Inv-loop : tie.InvT-loop
-Inv-loop l n words marks₀ i₀ marks i =
-    (i ≤ n) × (marks ≡ pad false baseMost (take i (map (beyondControl (limitsSay l)) (take n words))))
+Inv-loop l n words marks₀ i₀ marks i = Copied false baseMost (map (beyondControl (limitsSay l)) (take n words)) i marks
 
 abbrev μ-loop : tie.MeasureT-loop
 μ-loop l n words marks₀ i₀ marks i = n - i
 
 loop-holds : tie.Need-loop-holds Inv-loop μ-loop
-unfolding pad
-loop-holds c = (omega arith, refl)
+loop-holds c = copied-none _
 
 mul-beyond-control : tie.Need-mul-beyond-control Inv-loop μ-loop
 mul-beyond-control c = search needs
@@ -76,16 +73,13 @@ mark c =
 loop-again : tie.Need-loop-again Inv-loop μ-loop
 loop-again c =
     let start = c .before .before .before .before in
-    let l = c .before .before .before .loop in
-    let all = count start in (
-      omega arith,
-      rw (mark c, l .inv .1) (pad-next false baseMost (marks start) (l .i) (test start (pos 0)) (omega arith) (omega arith)),
-    )
+    let all = count start in
+    copied-next (marks start) (c .before .before .before .loop .inv) (test start (pos 0)) (omega arith) (omega arith) (mark c)
 
 returns : tie.Need-returns Inv-loop μ-loop
 returns c =
     let start = c .before .before in
-    c .before .loop .inv .1 ∙ ap (pad false baseMost) (take-all (c .before .loop .i) (marks start) (omega (arith, count start)))
+    copied-all (marks start) (c .before .loop .inv) (omega (arith, count start))
 
 pub marks-beyond-spec : {M : Type 1} → statement M
 marks-beyond-spec =

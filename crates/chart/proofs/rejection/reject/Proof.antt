@@ -4,7 +4,7 @@ use native.Mathlib.Omega.{arith}
 use borrow.Author.Needs.{needs}
 use lib.ListN.{length, take}
 use lib.Seq.{length-take-le}
-use Rattle.guide.specs.Sizes.{baseMost}
+use Rattle.rules.specs.Sizes.{baseMost}
 use Rattle.chart.proofs.rejection.reject.Statement.{statement}
 use Rattle.chart.proofs.rejection.reject.Tie as tie
 

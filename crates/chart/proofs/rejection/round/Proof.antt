@@ -4,7 +4,7 @@ use native.Mathlib.Omega.{arith}
 use borrow.Author.Needs.{needs}
 use lib.ListN.{length, take}
 use lib.Seq.{length-take-le}
-use Rattle.guide.specs.Sizes.{baseMost}
+use Rattle.rules.specs.Sizes.{baseMost}
 use Rattle.chart.proofs.Rounds.{marked-removed, round-is}
 use Rattle.chart.proofs.rejection.round.Statement.{statement}
 use Rattle.chart.proofs.rejection.round.Tie as tie
@@ -24,11 +24,9 @@ less-marked-requires : tie.Need-less-marked-requires
 less-marked-requires c κs =
     let start = c .before .before in
     let a = start .args in
-    let marks = c .before .marks-beyond in (
-      start .pre .0,
-      rw (marked-removed (a .kind) (a .n) (take (a .n) (a .words)) (a .sums) (marks .result) (count start) (marks .ensures))
-          (start .pre .1 .removable),
-    )
+    let marks = c .before .marks-beyond in
+    let removed = marked-removed (a .kind) (a .n) (take (a .n) (a .words)) (a .sums) (marks .result) (count start) (marks .ensures) in
+    record { few = start .pre .0; removable = rw removed (start .pre .1 .removable) }
 
 returns : tie.Need-returns
 returns c =

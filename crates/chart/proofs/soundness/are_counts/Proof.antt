@@ -1,6 +1,6 @@
 -- `chart::soundness::are_counts` meets its contract.
 use mathlib.Core.Path.{refl}
-use Rattle.guide.specs.Soundness.{areCounts}
+use Rattle.rules.specs.Soundness.{areCounts}
 use Rattle.chart.proofs.soundness.are_counts.Statement.{statement}
 use Rattle.chart.proofs.soundness.are_counts.Tie as tie
 

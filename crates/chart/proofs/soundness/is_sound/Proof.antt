@@ -2,9 +2,9 @@
 use mathlib.Core.Path.{_≡_}
 use borrow.Author.Needs.{needs}
 use denote.Ref.{now}
-use Rattle.guide.specs.Limits.{limitsOf}
-use Rattle.guide.specs.State.{limitsFor}
-use Rattle.guide.specs.Soundness.{sound}
+use Rattle.rules.specs.Limits.{limitsOf}
+use Rattle.rules.specs.State.{limitsFor}
+use Rattle.rules.specs.Soundness.{sound}
 use Rattle.limits.specs.Sums.{limitsSay}
 use Rattle.chart.proofs.soundness.is_sound.Statement.{statement}
 use Rattle.chart.proofs.soundness.is_sound.Tie as tie

@@ -29,7 +29,7 @@ is-sound-requires c κs =
 
 returns : tie.Need-returns
 unfolding stateOf
-returns c = c .is-sound .ensures
+returns c = search needs
 
 pub state-sound-spec : {M : Type 1} → statement M
 state-sound-spec =

@@ -1,6 +1,6 @@
 -- `chart::soundness::words_sound` meets its contract.
 use borrow.Author.Needs.{needs}
-use Rattle.guide.specs.Soundness.{wordsSound}
+use Rattle.rules.specs.Soundness.{wordsSound}
 use Rattle.chart.proofs.soundness.words_sound.Statement.{statement}
 use Rattle.chart.proofs.soundness.words_sound.Tie as tie
 

@@ -5,8 +5,8 @@ use native.Mathlib.Omega.{arith}
 use borrow.Author.Needs.{needs, sfits-of}
 use denote.Ref.{now}
 use lib.ListN.{length, drop}
-use Rattle.guide.specs.AllOf.{allOf}
-use Rattle.guide.proofs.AllOf.{all-none, all-fails, all-passes}
+use Rattle.rules.specs.AllOf.{allOf}
+use Rattle.rules.proofs.AllOf.{all-none, all-fails, all-passes}
 use Rattle.chart.specs.Soundness.{isZero, unusedHoldZero}
 use Rattle.chart.proofs.Places.{zero-held, not-zero-held}
 use Rattle.chart.proofs.soundness.zero_from.Statement.{statement}

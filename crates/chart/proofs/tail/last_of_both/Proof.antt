@@ -1,25 +1,22 @@
 -- `chart::tail::last_of_both` meets its contract. The loop's invariant: the first i of the last k words are in place.
-use mathlib.Core.Path.{_≡_, refl, sym, ap, _∙_}
+use mathlib.Core.Path.{_≡_, sym, ap, _∙_}
 use mathlib.Core.List.{List, _++_}
-use Prim.Native.Nat.{ℕ, _+_, _-_, _≤_}
+use Prim.Native.Nat.{ℕ, _+_, _-_}
 use native.Mathlib.Omega.{arith}
 use borrow.Author.Needs.{needs, sfits-of}
 use denote.Ref.{now}
-use lib.ListN.{length, take, getD, length-append}
-use lib.Seq.{take-all}
+use lib.ListN.{length, getD, length-append}
 use lib.IntN.{ℤ, pos}
 use mir.Facts.{toZ-ofZ}
-use Rattle.guide.specs.Sizes.{baseMost}
-use Rattle.guide.specs.LastWords.{lastWords}
-use Rattle.guide.proofs.LastWords.{length-last-words, last-words-at}
-use Rattle.chart.specs.Pad.{pad}
-use Rattle.chart.proofs.Places.{pad-next}
+use Rattle.rules.specs.Sizes.{baseMost}
+use Rattle.rules.specs.LastWords.{lastWords}
+use Rattle.rules.proofs.LastWords.{length-last-words, last-words-at}
+use Rattle.chart.proofs.Places.{Copied, copied-none, copied-next, copied-all}
 use Rattle.chart.proofs.tail.last_of_both.Statement.{statement}
 use Rattle.chart.proofs.tail.last_of_both.Tie as tie
 
 abbrev Inv-loop : tie.InvT-loop
-Inv-loop base series k first words₀ i₀ words i =
-    (i ≤ k) × (words ≡ pad (pos 0) baseMost (take i (lastWords k (base ++ series))))
+Inv-loop base series k first words₀ i₀ words i = Copied (pos 0) baseMost (lastWords k (base ++ series)) i words
 
 abbrev μ-loop : tie.MeasureT-loop
 μ-loop base series k first words₀ i₀ words i = k - i
@@ -28,17 +25,16 @@ add-first : tie.Need-add-first Inv-loop μ-loop
 add-first c = search needs
 
 sub-first : tie.Need-sub-first Inv-loop μ-loop
-sub-first c = omega (arith, c .pre .0)
+sub-first c = omega (arith, c .pre .within)
 
 loop-holds : tie.Need-loop-holds Inv-loop μ-loop
-unfolding pad
-loop-holds c = (omega arith, refl)
+loop-holds c = copied-none _
 
 add-word-at : tie.Need-add-word-at Inv-loop μ-loop
-add-word-at c = omega (arith, c .before .before .pre .0)
+add-word-at c = omega (arith, c .before .before .pre .within)
 
 word-at-requires : tie.Need-word-at-requires Inv-loop μ-loop
-word-at-requires c κs = omega (arith, c .before .before .pre .0)
+word-at-requires c κs = omega (arith, c .before .before .pre .within)
 
 mul-words : tie.Need-mul-words Inv-loop μ-loop
 mul-words c = search needs
@@ -63,7 +59,7 @@ all-words : (c : tie.Start Inv-loop μ-loop) → length (both c) ≡ length (now
 all-words c = length-append (now (c .args .base)) (now (c .args .series))
 
 counted : (c : tie.Start Inv-loop μ-loop) → length (last c) ≡ c .args .k
-counted c = length-last-words (c .args .k) (both c) (omega (arith, all-words c, c .pre .0))
+counted c = length-last-words (c .args .k) (both c) (omega (arith, all-words c, c .pre .within))
 
 -- the call gave the next of them
 taken : (c : tie.After-word-at Inv-loop μ-loop) → let l = c .before .before in
@@ -80,17 +76,14 @@ taken c =
 loop-again : tie.Need-loop-again Inv-loop μ-loop
 loop-again c =
     let l = c .before .before in
-    let i = l .loop .i in
-    let few = counted (l .before) in (
-      omega arith,
-      rw (toZ-ofZ (sfits-of (c .word-at .ok)), taken c, l .loop .inv .1)
-          (pad-next (pos 0) baseMost (last (l .before)) i (pos 0) (omega arith) (omega arith)),
-    )
+    let few = counted (l .before) in
+    rw (toZ-ofZ (sfits-of (c .word-at .ok)))
+    (copied-next (last (l .before)) (l .loop .inv) (pos 0) (omega arith) (omega arith) (taken c))
 
 returns : tie.Need-returns Inv-loop μ-loop
 returns c =
     let l = c .before in
-    l .loop .inv .1 ∙ ap (pad (pos 0) baseMost) (take-all (l .loop .i) (last (l .before)) (omega (arith, counted (l .before))))
+    copied-all (last (l .before)) (l .loop .inv) (omega (arith, counted (l .before)))
 
 pub last-of-both-spec : {M : Type 1} → statement M
 last-of-both-spec =

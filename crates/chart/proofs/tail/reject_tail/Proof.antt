@@ -7,19 +7,18 @@ use borrow.Author.Needs.{needs}
 use denote.Ref.{now}
 use lib.ListN.{length, length-append}
 use lib.IntN.{ℤ}
-use Rattle.guide.specs.Sizes.{baseWanted, baseMost}
-use Rattle.guide.specs.Tail.{shortestTail}
-use Rattle.guide.specs.LastWords.{lastWords}
-use Rattle.guide.proofs.LastWords.{length-last-words}
-use Rattle.guide.proofs.Tail.{searchFrom}
+use Rattle.rules.specs.Sizes.{baseMost}
+use Rattle.rules.specs.Tail.{shortestTail}
+use Rattle.rules.specs.LastWords.{lastWords}
+use Rattle.rules.proofs.LastWords.{length-last-words}
+use Rattle.chart.specs.Tail.{HasTail}
 use Rattle.chart.proofs.Rounds.{rejected-front}
-use Rattle.chart.proofs.Tails.{within-both, past-one, Tried, found, not-found, none-found}
+use Rattle.chart.proofs.Tails.{has-tail, past-one, Searching, Tried, found, not-found, none-found}
 use Rattle.chart.proofs.tail.reject_tail.Statement.{statement}
 use Rattle.chart.proofs.tail.reject_tail.Tie as tie
 
 abbrev Inv-loop : tie.InvT-loop
-Inv-loop kind base series all k₀ k =
-    (baseWanted ≤ k) × ((k ≤ suc baseMost) × (searchFrom kind (base ++ series) k ≡ shortestTail kind (base ++ series)))
+Inv-loop kind base series all k₀ k = Searching kind (base ++ series) k
 
 abbrev μ-loop : tie.MeasureT-loop
 μ-loop kind base series all k₀ k = suc baseMost - k
@@ -29,7 +28,7 @@ add-all c = search needs
 
 loop-holds : tie.Need-loop-holds Inv-loop μ-loop
 unfolding shortestTail
-loop-holds c = (omega arith, (omega arith, refl))
+loop-holds c = record { least = omega arith; most = omega arith; search = refl }
 
 -- the words of both slices
 abbrev words : tie.Start Inv-loop μ-loop → List ℤ
@@ -40,14 +39,14 @@ all-words c = length-append (now (c .args .base)) (now (c .args .series))
 
 -- k is within the bounds while the loop goes on
 bounds : (c : tie.In-loop Inv-loop μ-loop) → let start = c .before .before .args in
-    (c .before .loop .k ≤ length (now (start .base)) + length (now (start .series))) × (c .before .loop .k ≤ baseMost)
-bounds c = let both = within-both (c .loop-test .taken) in (both .0, omega (arith, both .1))
+    HasTail (now (start .base)) (now (start .series)) (c .before .loop .k)
+bounds c = has-tail (now (c .before .before .args .base)) (now (c .before .before .args .series)) (c .loop-test .taken)
 
 last-of-both-requires : tie.Need-last-of-both-requires Inv-loop μ-loop
 last-of-both-requires c κs = bounds c
 
 reject-requires : tie.Need-reject-requires Inv-loop μ-loop
-reject-requires c κs = bounds (c .before) .1
+reject-requires c κs = bounds (c .before) .most
 
 -- a turn of the loop tries the last k words
 turn : (c : tie.After-reject Inv-loop μ-loop) → let l = c .before .before .before in
@@ -57,21 +56,21 @@ turn c =
     let l = last .before .before in
     let start = l .before in
     let k = l .loop .k in
-    let within : k ≤ length (words start) = omega (arith, bounds (last .before) .0, all-words start) in
+    let within : k ≤ length (words start) = omega (arith, bounds (last .before) .within, all-words start) in
     record {
       within = within;
-      most = bounds (last .before) .1;
+      most = bounds (last .before) .most;
       is =
           rejected-front (start .args .kind) (lastWords k (words start)) (last .last-of-both .result) k (c .reject .result)
           (sym (length-last-words k (words start) within)) (last .last-of-both .ensures) (c .reject .ensures);
-      search = l .loop .inv .1 .1;
+      search = l .loop .inv .search;
     }
 
 returns : tie.Need-returns Inv-loop μ-loop
 returns c = found (turn (c .before .before .before)) (c .if1 .taken)
 
 add-k : tie.Need-add-k Inv-loop μ-loop
-add-k c = let l = c .before .before .before .before .before .before in omega (arith, l .loop .inv .1 .0)
+add-k c = let l = c .before .before .before .before .before .before in omega (arith, l .loop .inv .most)
 
 loop-less : tie.Need-loop-less Inv-loop μ-loop
 loop-less c = let tried = turn (c .before .before .before) in omega (arith, tried .most)
@@ -80,7 +79,7 @@ loop-again : tie.Need-loop-again Inv-loop μ-loop
 loop-again c =
     let tried = turn (c .before .before .before) in
     let l = c .before .before .before .before .before .before in
-    (omega (arith, l .loop .inv .0), (omega (arith, tried .most), not-found tried (c .if1 .left)))
+    record { least = omega (arith, l .loop .inv .least); most = omega (arith, tried .most); search = not-found tried (c .if1 .left) }
 
 no-tail-requires : tie.Need-no-tail-requires Inv-loop μ-loop
 no-tail-requires c κs = search needs
@@ -92,7 +91,7 @@ returns-2 c =
     let number = length (now (start .args .base)) + length (now (start .args .series)) in
     none-found (start .args .kind) (words start) (l .loop .k) (c .no-tail .result)
     (omega (arith, past-one (l .loop .k) number baseMost (c .before .loop-test .left), all-words start))
-    (l .loop .inv .1 .1) (c .no-tail .ensures)
+    (l .loop .inv .search) (c .no-tail .ensures)
 
 pub reject-tail-spec : {M : Type 1} → statement M
 reject-tail-spec =

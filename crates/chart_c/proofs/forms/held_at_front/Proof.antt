@@ -7,9 +7,8 @@ use borrow.Author.Tests.{le-leb, lt-leb}
 use denote.Ref.{now}
 use lib.ListN.{length}
 use lib.Seq.{length-take-le}
-use Rattle.store.specs.Store.{chartAfterReading}
-use Rattle.chart_c.specs.Outcome.{numberOf}
-use Rattle.chart_c.specs.Forms.{readingFront, readingOutcome}
+use Rattle.store.specs.HeldChart.{chartOfStart, numberOfStart}
+use Rattle.chart_c.specs.Forms.{frontStart}
 use Rattle.chart_c.proofs.forms.held_at_front.Statement.{statement}
 use Rattle.chart_c.proofs.forms.held_at_front.Tie as tie
 
@@ -17,7 +16,7 @@ zero-chart-requires : tie.Need-zero-chart-requires
 zero-chart-requires c κs = search needs
 
 returns : tie.Need-returns
-unfolding readingFront readingOutcome numberOf chartAfterReading
+unfolding frontStart numberOfStart chartOfStart
 returns c =
     let a = c .before .before .before .args in
     let short = lt-leb (a .size) (length (now (a .buffer))) (c .before .if1 .taken) in
@@ -35,7 +34,7 @@ held-in-requires : tie.Need-held-in-requires
 held-in-requires c κs = search needs
 
 returns-2 : tie.Need-returns-2
-unfolding readingFront
+unfolding frontStart
 returns-2 c =
     let s = c .before .before in
     let a = s .before .before .args in

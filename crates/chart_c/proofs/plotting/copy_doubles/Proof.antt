@@ -1,25 +1,21 @@
 -- `chart_c::plotting::copy_doubles` meets its contract. Invariant: the first i doubles are at the front, and the rest is as it was.
-use mathlib.Core.Path.{_≡_, refl}
-use mathlib.Core.List.{_++_}
-use Prim.Native.Nat.{_-_, _≤_}
+use Prim.Native.Nat.{_-_}
 use native.Mathlib.Omega.{arith}
 use borrow.Author.Needs.{needs}
 use denote.Ref.{now}
-use lib.ListN.{length, take, drop}
-use lib.Ieee.{nan}
-use Rattle.chart_c.proofs.Fronts.{front-more, front-all}
+use lib.ListN.{length}
+use Rattle.chart_c.proofs.Drawn.{Copied, copied-none, copied-next, copied-all}
 use Rattle.chart_c.proofs.plotting.copy_doubles.Statement.{statement}
 use Rattle.chart_c.proofs.plotting.copy_doubles.Tie as tie
 
 abbrev Inv-loop : tie.InvT-loop
-Inv-loop doubles buffer₀ i₀ buffer i =
-    (i ≤ length doubles) × ((length buffer ≡ length buffer₀) × (buffer ≡ take i doubles ++ drop i buffer₀))
+Inv-loop doubles buffer₀ i₀ buffer i = Copied doubles buffer₀ buffer i
 
 abbrev μ-loop : tie.MeasureT-loop
 μ-loop doubles buffer₀ i₀ buffer i = length doubles - i
 
 loop-holds : tie.Need-loop-holds Inv-loop μ-loop
-loop-holds c = (search needs, (refl, refl))
+loop-holds c = copied-none (now (c .args .doubles)) (now (c .args .buffer))
 
 mul-buffer : tie.Need-mul-buffer Inv-loop μ-loop
 mul-buffer c = search needs
@@ -40,19 +36,13 @@ loop-less : tie.Need-loop-less Inv-loop μ-loop
 loop-less c = search needs
 
 loop-again : tie.Need-loop-again Inv-loop μ-loop
-loop-again c =
-    let at = c .before .before in
-    let a = at .before .args in
-    let more = front-more (now (a .doubles)) (now (a .buffer)) (at .loop .i) nan (omega arith) (omega arith) (at .loop .inv .1 .1) refl in
-    (search needs, (search needs, more))
+loop-again c = copied-next (omega arith) (omega arith) (c .before .before .loop .inv)
 
 same-length : tie.Need-same-length Inv-loop μ-loop
 same-length c = search needs
 
 returns : tie.Need-returns Inv-loop μ-loop
-returns c =
-    let a = c .before .before .args in
-    front-all (now (a .doubles)) (now (a .buffer)) (c .before .loop .i) (omega arith) (c .before .loop .inv .1 .1)
+returns c = copied-all (omega arith) (c .before .loop .inv)
 
 pub copy-doubles-spec : {M : Type 1} → statement M
 copy-doubles-spec =

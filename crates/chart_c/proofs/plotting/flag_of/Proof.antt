@@ -1,5 +1,5 @@
 -- `chart_c::plotting::flag_of` meets its contract.
-use Rattle.chart_c.specs.Outcome.{flag}
+use Rattle.chart_c.specs.Lent.{flag}
 use Rattle.chart_c.proofs.plotting.flag_of.Statement.{statement}
 use Rattle.chart_c.proofs.plotting.flag_of.Tie as tie
 

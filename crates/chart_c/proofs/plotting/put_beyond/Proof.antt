@@ -3,8 +3,9 @@ use mathlib.Core.Path.{_∙_}
 use mathlib.Core.List.{[], _∷_}
 use borrow.Author.Needs.{needs}
 use Rattle.lines.specs.Lines.{beyondSays}
-use Rattle.chart_c.specs.Outcome.{atFront}
+use Rattle.rules.specs.Buffer.{atFront}
 use Rattle.chart_c.specs.Plotting.{flagsOf}
+use Rattle.chart_c.proofs.Texts.{put-at-front}
 use Rattle.chart_c.proofs.plotting.put_beyond.Statement.{statement}
 use Rattle.chart_c.proofs.plotting.put_beyond.Tie as tie
 
@@ -20,17 +21,17 @@ flag-of-requires-3 c κs = search needs
 flag-of-requires-4 : tie.Need-flag-of-requires-4
 flag-of-requires-4 c κs = search needs
 
-slice-aggregate-copy-bytes : tie.Need-slice-aggregate-copy-bytes
-slice-aggregate-copy-bytes c = search needs
+slice-aggregate-put-text : tie.Need-slice-aggregate-put-text
+slice-aggregate-put-text c = search needs
 
-copy-bytes-requires : tie.Need-copy-bytes-requires
-copy-bytes-requires c κs = search needs
+put-text-requires : tie.Need-put-text-requires
+put-text-requires c κs = search needs
 
 same-length : tie.Need-same-length
 same-length c = search needs
 
 returns : tie.Need-returns
-unfolding flagsOf beyondSays
+unfolding flagsOf beyondSays atFront
 returns c =
     let copied = c .before .before in
     let fourth = copied .before .before .before in
@@ -42,7 +43,7 @@ returns c =
     let lower-control = third .flag-of3 .ensures in
     let upper-control = fourth .flag-of4 .ensures in
     let buffer = first .before .before .args .buffer .now in
-    copied .copy-bytes .ensures
+    put-at-front _ (first .before .before .pre) (copied .put-text .ensures) .buffer
     ∙ (λ i. atFront (lower-warning i ∷ upper-warning i ∷ lower-control i ∷ upper-control i ∷ []) buffer)
 
 pub put-beyond-spec : {M : Type 1} → statement M
@@ -53,7 +54,7 @@ put-beyond-spec =
     flag-of-requires-2
     flag-of-requires-3
     flag-of-requires-4
-    slice-aggregate-copy-bytes
-    copy-bytes-requires
+    slice-aggregate-put-text
+    put-text-requires
     same-length
     returns)

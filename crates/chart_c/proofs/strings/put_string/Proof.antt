@@ -1,5 +1,4 @@
 -- `chart_c::strings::put_string` meets its contract.
-use native.Mathlib.Omega.{arith}
 use borrow.Author.Needs.{needs}
 use Rattle.chart_c.proofs.Texts.{text-short, text-put}
 use Rattle.chart_c.proofs.strings.put_string.Statement.{statement}
@@ -8,19 +7,20 @@ use Rattle.chart_c.proofs.strings.put_string.Tie as tie
 returns : tie.Need-returns
 returns c = text-short _ _ (c .if1 .taken)
 
-copy-bytes-requires : tie.Need-copy-bytes-requires
-copy-bytes-requires c κs = search needs
+put-text-requires : tie.Need-put-text-requires
+put-text-requires c κs = search needs
 
-slice-write-buffer : tie.Need-slice-write-buffer
-slice-write-buffer c = search needs
+put-byte-requires : tie.Need-put-byte-requires
+put-byte-requires c κs = search needs
 
 same-length : tie.Need-same-length
 same-length c = search needs
 
 returns-2 : tie.Need-returns-2
 returns-2 c =
-    let copied = c .before .before in
-    text-put _ _ (omega (arith, copied .before .before .if1 .left)) (copied .copy-bytes .ensures)
+    let ended = c .before .before in
+    let copied = ended .before .before .before .before in
+    text-put _ _ (copied .before .before .if1 .left) (copied .put-text .ensures) (ended .put-byte .ensures)
 
 pub put-string-spec : {M : Type 1} → statement M
-put-string-spec = tie.close (tie.spec returns copy-bytes-requires slice-write-buffer same-length returns-2)
+put-string-spec = tie.close (tie.spec returns put-text-requires put-byte-requires same-length returns-2)

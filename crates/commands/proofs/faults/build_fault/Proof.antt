@@ -5,11 +5,11 @@ use Rattle.commands.proofs.FirstFault.{build-faults}
 use Rattle.commands.proofs.faults.build_fault.Statement.{statement}
 use Rattle.commands.proofs.faults.build_fault.Tie as tie
 
-number-at-requires : tie.Need-number-at-requires
-number-at-requires c κs = search needs
+number-field-at-requires : tie.Need-number-field-at-requires
+number-field-at-requires c κs = search needs
 
-number-fault-requires : tie.Need-number-fault-requires
-number-fault-requires c κs = search needs
+field-fault-requires : tie.Need-field-fault-requires
+field-fault-requires c κs = search needs
 
 words-fault-requires : tie.Need-words-fault-requires
 words-fault-requires c κs = search needs
@@ -21,14 +21,14 @@ returns : tie.Need-returns
 returns c =
     let of-kind = c .before .before in
     c .or-else .ensures
-    ∙ build-faults (of-kind .before .number-at .ensures) (of-kind .number-fault .ensures) (c .before .words-fault .ensures)
+    ∙ build-faults (of-kind .before .number-field-at .ensures) (of-kind .field-fault .ensures) (c .before .words-fault .ensures)
 
 pub build-fault-spec : {M : Type 1} → statement M
 build-fault-spec =
     tie.close
     (tie.spec
-    number-at-requires
-    number-fault-requires
+    number-field-at-requires
+    field-fault-requires
     words-fault-requires
     or-else-requires
     returns)

@@ -4,7 +4,7 @@ use borrow.Author.Tests.{eq-eqb, ne-eqb}
 use borrow.Author.Needs.{needs}
 use denote.Ref.{now}
 use lib.ListN.{length}
-use Rattle.guide.proofs.Booleans.{answered-no, answered-yes}
+use Rattle.rules.proofs.Booleans.{answered-no, answered-yes}
 use Rattle.commands.specs.Command.{hexFault}
 use Rattle.commands.proofs.faults.hex_fault.Statement.{statement}
 use Rattle.commands.proofs.faults.hex_fault.Tie as tie

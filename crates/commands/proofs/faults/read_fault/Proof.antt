@@ -1,23 +1,12 @@
 -- `commands::faults::read_fault` meets its contract.
 use mathlib.Core.Path.{_∙_}
 use borrow.Author.Needs.{needs}
-use denote.Ref.{now}
-use Rattle.commands.proofs.Fields.{part-from}
 use Rattle.commands.proofs.FirstFault.{read-faults}
 use Rattle.commands.proofs.faults.read_fault.Statement.{statement}
 use Rattle.commands.proofs.faults.read_fault.Tie as tie
 
-sub-rest : tie.Need-sub-rest
-sub-rest c = search needs
-
-part-rest-start : tie.Need-part-rest-start
-part-rest-start c = search needs
-
-part-rest-end : tie.Need-part-rest-end
-part-rest-end c = search needs
-
-first-field-requires : tie.Need-first-field-requires
-first-field-requires c κs = search needs
+field-at-requires : tie.Need-field-at-requires
+field-at-requires c κs = search needs
 
 sub-hex-fault : tie.Need-sub-hex-fault
 sub-hex-fault c = search needs
@@ -40,21 +29,14 @@ or-else-requires c κs = search needs
 returns : tie.Need-returns
 returns c =
     let digits = c .before .before in
-    let field = digits .before .before in
-    let start = field .before .before .before in
-    let part = part-from (now (start .args .line)) (start .args .at) in
     c .or-else .ensures
-    ∙ read-faults (rw part at (field .first-field .ensures)) (rw part at (digits .hex-fault .ensures))
-    (rw part at (c .before .end-fault .ensures))
+    ∙ read-faults (digits .before .before .field-at .ensures) (digits .hex-fault .ensures) (c .before .end-fault .ensures)
 
 pub read-fault-spec : {M : Type 1} → statement M
 read-fault-spec =
     tie.close
     (tie.spec
-    sub-rest
-    part-rest-start
-    part-rest-end
-    first-field-requires
+    field-at-requires
     sub-hex-fault
     part-hex-fault-start
     part-hex-fault-end

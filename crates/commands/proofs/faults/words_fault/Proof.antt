@@ -11,34 +11,41 @@ Inv-loop line at n₀ n = FaultsFrom line at n
 abbrev μ-loop : tie.MeasureT-loop
 μ-loop line at n₀ n = remaining line n
 
-number-at-requires : tie.Need-number-at-requires Inv-loop μ-loop
-number-at-requires c κs = search needs
+number-field-at-requires : tie.Need-number-field-at-requires Inv-loop μ-loop
+number-field-at-requires c κs = search needs
 
 loop-holds : tie.Need-loop-holds Inv-loop μ-loop
-loop-holds c = faults-start (c .number-at .ensures)
+loop-holds c = faults-start (c .number-field-at .ensures)
 
-number-fault-requires : tie.Need-number-fault-requires Inv-loop μ-loop
-number-fault-requires c κs = search needs
+field-fault-requires : tie.Need-field-fault-requires Inv-loop μ-loop
+field-fault-requires c κs = search needs
+
+enum-told : tie.Need-enum-told Inv-loop μ-loop
+enum-told c = search needs
 
 returns : tie.Need-returns Inv-loop μ-loop
 returns c =
-    let l = c .before .before .before in
-    fault-here (l .loop .inv) (c .before .before .loop-test .taken) (c .before .number-fault .ensures) (c .if1 .taken)
+    let tested = c .before .before in
+    let l = tested .before in
+    fault-here (l .before .loop .inv) _ (l .loop-test .taken) (tested .field-fault .ensures) (c .enum-told .given .1)
 
-number-at-requires-2 : tie.Need-number-at-requires-2 Inv-loop μ-loop
-number-at-requires-2 c κs = c .before .before .before .loop .inv .found .within
+enum-told-2 : tie.Need-enum-told-2 Inv-loop μ-loop
+enum-told-2 c = search needs
+
+number-field-at-requires-2 : tie.Need-number-field-at-requires-2 Inv-loop μ-loop
+number-field-at-requires-2 c κs = c .before .before .before .before .loop .inv .found .within
 
 loop-less : tie.Need-loop-less Inv-loop μ-loop
 loop-less c =
     let l = c .before .before .before .before in
-    less-remains (l .loop .n) (c .before .before .before .loop-test .taken) (c .number-at2 .ensures)
+    less-remains (l .before .loop .n) (l .loop-test .taken) (c .number-field-at2 .ensures)
 
 loop-again : tie.Need-loop-again Inv-loop μ-loop
 loop-again c =
-    let tested = c .before .before in
-    let l = tested .before .before in
-    let present = tested .before .loop-test .taken in
-    faults-more (l .loop .inv) present (tested .number-fault .ensures) (c .before .if1 .left) (c .number-at2 .ensures)
+    let tested = c .before .before .before in
+    let l = tested .before in
+    faults-more (l .before .loop .inv) (l .loop-test .taken) (tested .field-fault .ensures) (c .before .enum-told2 .given .1)
+    (c .number-field-at2 .ensures)
 
 returns-2 : tie.Need-returns-2 Inv-loop μ-loop
 returns-2 c = faults-end (c .before .loop .inv) (c .loop-test .left)
@@ -49,11 +56,13 @@ words-fault-spec =
     (tie.spec
     Inv-loop
     μ-loop
-    number-at-requires
+    number-field-at-requires
     loop-holds
-    number-fault-requires
+    field-fault-requires
+    enum-told
     returns
-    number-at-requires-2
+    enum-told-2
+    number-field-at-requires-2
     loop-less
     loop-again
     returns-2)

@@ -16,19 +16,19 @@ Inv-loop line at words₀ count₀ n₀ words count n = WordsPut line at words�
 abbrev μ-loop : tie.MeasureT-loop
 μ-loop line at words₀ count₀ n₀ words count n = remaining line n
 
-number-at-requires : tie.Need-number-at-requires Inv-loop μ-loop
-number-at-requires c κs = c .before .pre .0
+number-field-at-requires : tie.Need-number-field-at-requires Inv-loop μ-loop
+number-field-at-requires c κs = c .before .pre .0
 
 loop-holds : tie.Need-loop-holds Inv-loop μ-loop
 loop-holds c =
     let start = c .before .before in
-    words-start (now (start .args .words)) (start .pre .0) (c .number-at .ensures)
+    words-start (now (start .args .words)) (start .pre .0) (c .number-field-at .ensures)
 
-word-of-requires : tie.Need-word-of-requires Inv-loop μ-loop
-word-of-requires c κs = search needs
+word-in-field-requires : tie.Need-word-in-field-requires Inv-loop μ-loop
+word-in-field-requires c κs = search needs
 
 -- the buffer has a place for the present word
-room-here : (c : tie.After-word-of Inv-loop μ-loop) → c .before .before .loop .count < length (c .before .before .loop .words)
+room-here : (c : tie.After-word-in-field Inv-loop μ-loop) → c .before .before .loop .count < length (c .before .before .loop .words)
 room-here c =
     let l = c .before .before in
     room-for-one (l .before .before .before .pre .1) (l .loop .inv) (c .before .loop-test .taken)
@@ -42,19 +42,19 @@ slice-set-from-words c = room-here c
 add-count : tie.Need-add-count Inv-loop μ-loop
 add-count c = let room = room-here c in search needs
 
-number-at-requires-2 : tie.Need-number-at-requires-2 Inv-loop μ-loop
-number-at-requires-2 c κs = c .before .before .loop .inv .found .within
+number-field-at-requires-2 : tie.Need-number-field-at-requires-2 Inv-loop μ-loop
+number-field-at-requires-2 c κs = c .before .before .loop .inv .found .within
 
 loop-less : tie.Need-loop-less Inv-loop μ-loop
-loop-less c = less-remains (c .before .before .before .loop .n) (c .before .before .loop-test .taken) (c .number-at2 .ensures)
+loop-less c = less-remains (c .before .before .before .loop .n) (c .before .before .loop-test .taken) (c .number-field-at2 .ensures)
 
 loop-again : tie.Need-loop-again Inv-loop μ-loop
 loop-again c =
     let l = c .before .before .before in
     let start = l .before .before .before in
-    let word = c .before .word-of in
+    let word = c .before .word-in-field in
     let written = toZ-ofZ (sfits-of (word .ok)) ∙ word .ensures in
-    words-more (start .pre .1) (l .loop .inv) (c .before .before .loop-test .taken) written (c .number-at2 .ensures)
+    words-more (start .pre .1) (l .loop .inv) (c .before .before .loop-test .taken) written (c .number-field-at2 .ensures)
 
 same-length : tie.Need-same-length Inv-loop μ-loop
 same-length c = same-size (c .before .before .before .before .pre .1) (c .before .loop .inv)
@@ -68,13 +68,13 @@ put-words-at-spec =
     (tie.spec
     Inv-loop
     μ-loop
-    number-at-requires
+    number-field-at-requires
     loop-holds
-    word-of-requires
+    word-in-field-requires
     mul-t9
     slice-set-from-words
     add-count
-    number-at-requires-2
+    number-field-at-requires-2
     loop-less
     loop-again
     same-length

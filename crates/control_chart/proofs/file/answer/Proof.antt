@@ -1,6 +1,6 @@
 -- `control_chart::file::answer` meets its contract.
 use borrow.Author.Needs.{needs}
-use Rattle.control_chart.specs.Status.{StatusBy, ofAnswer, ofError}
+use Rattle.control_chart.specs.Status.{ofAnswer, ofError}
 use Rattle.control_chart.proofs.file.answer.Statement.{statement}
 use Rattle.control_chart.proofs.file.answer.Tie as tie
 
@@ -13,9 +13,6 @@ exit-status-requires c κs = search needs
 returns : tie.Need-returns
 returns c = ofAnswer (c .exit-status .ensures)
 
-slice-aggregate-failure : tie.Need-slice-aggregate-failure
-slice-aggregate-failure c = search needs
-
 failure-requires : tie.Need-failure-requires
 failure-requires c κs = search needs
 
@@ -24,11 +21,4 @@ returns-2 c = ofError (c .failure .ensures)
 
 pub answer-spec : {M : Type 1} → statement M
 answer-spec =
-    tie.close
-    (tie.spec
-    say-requires
-    exit-status-requires
-    returns
-    slice-aggregate-failure
-    failure-requires
-    returns-2)
+    tie.close (tie.spec say-requires exit-status-requires returns failure-requires returns-2)

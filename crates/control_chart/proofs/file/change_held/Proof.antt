@@ -2,8 +2,8 @@
 use mathlib.Core.Path.{ap}
 use native.Mathlib.Omega.{arith}
 use borrow.Author.Needs.{needs}
-use Rattle.control_chart.specs.Status.{isAnswered, StatusOfEnding, inError}
-use Rattle.control_chart.proofs.Statuses.{of-answer}
+use Rattle.control_chart.specs.Status.{isAnswered, answered}
+use Rattle.control_chart.proofs.Statuses.{of-ending}
 use Rattle.control_chart.proofs.file.change_held.Statement.{statement}
 use Rattle.control_chart.proofs.file.change_held.Tie as tie
 
@@ -34,65 +34,28 @@ slice-aggregate-keep-2 c = search needs
 keep-requires : tie.Need-keep-requires
 keep-requires c κs = search needs
 
-enum-told-2 : tie.Need-enum-told-2
-enum-told-2 c = search needs
-
 release-requires : tie.Need-release-requires
 release-requires c κs = search needs
 
 array-share-prefix-out-2 : tie.Need-array-share-prefix-out-2
 array-share-prefix-out-2 c = search needs
 
-slice-aggregate-answer : tie.Need-slice-aggregate-answer
-slice-aggregate-answer c = search needs
+slice-aggregate-say-outcome : tie.Need-slice-aggregate-say-outcome
+slice-aggregate-say-outcome c = search needs
 
-answer-requires : tie.Need-answer-requires
-answer-requires c κs = search needs
-
-enum-told-3 : tie.Need-enum-told-3
-enum-told-3 c = search needs
-
-release-requires-2 : tie.Need-release-requires-2
-release-requires-2 c κs = search needs
-
-array-share-prefix-out-3 : tie.Need-array-share-prefix-out-3
-array-share-prefix-out-3 c = search needs
-
-slice-aggregate-error : tie.Need-slice-aggregate-error
-slice-aggregate-error c = search needs
-
-error-requires : tie.Need-error-requires
-error-requires c κs = search needs
-
-enum-told-4 : tie.Need-enum-told-4
-enum-told-4 c = search needs
-
-release-requires-3 : tie.Need-release-requires-3
-release-requires-3 c κs = search needs
-
-slice-aggregate-error-2 : tie.Need-slice-aggregate-error-2
-slice-aggregate-error-2 c = search needs
-
-error-requires-2 : tie.Need-error-requires-2
-error-requires-2 c κs = search needs
+say-outcome-requires : tie.Need-say-outcome-requires
+say-outcome-requires c κs = search needs
 
 returns : tie.Need-returns
 returns c =
     let told = c .before .before .before in
     let called = told .before .before .before .before in
-    of-answer (called .on-file .ensures .0) (omega arith) (ap isAnswered (told .enum-told .given .1)) (c .keep .ensures)
+    of-ending (called .on-file .ensures .0) (omega arith) (answered (ap isAnswered (told .enum-told .given .1)) (c .keep .ensures))
 
 returns-2 : tie.Need-returns-2
 returns-2 c =
-    let told = c .before .before .before in
-    let called = told .before .before .before .before in
-    of-answer (called .on-file .ensures .0) (omega arith) (ap isAnswered (told .enum-told2 .given .1)) (c .answer .ensures)
-
-returns-3 : tie.Need-returns-3
-returns-3 c = inError (c .error .ensures)
-
-returns-4 : tie.Need-returns-4
-returns-4 c = inError (c .error2 .ensures)
+    let called = c .before .before .before .before .before .before in
+    of-ending (called .on-file .ensures .0) (omega arith) (c .say-outcome .ensures)
 
 pub change-held-spec : {M : Type 1} → statement M
 change-held-spec =
@@ -107,21 +70,9 @@ change-held-spec =
     array-share-prefix-out
     slice-aggregate-keep-2
     keep-requires
-    enum-told-2
     release-requires
     array-share-prefix-out-2
-    slice-aggregate-answer
-    answer-requires
-    enum-told-3
-    release-requires-2
-    array-share-prefix-out-3
-    slice-aggregate-error
-    error-requires
-    enum-told-4
-    release-requires-3
-    slice-aggregate-error-2
-    error-requires-2
+    slice-aggregate-say-outcome
+    say-outcome-requires
     returns
-    returns-2
-    returns-3
-    returns-4)
+    returns-2)

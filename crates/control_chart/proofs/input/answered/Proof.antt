@@ -3,10 +3,11 @@ use mathlib.Core.Path.{refl, ap, _∙_}
 use Prim.Native.Nat.{max}
 use native.Mathlib.Omega.{arith}
 use borrow.Author.Needs.{needs}
-use Rattle.commands.proofs.Fronts.{front-is}
+use Rattle.rules.proofs.Buffer.{front-is}
 use Rattle.outcomes.specs.Status.{statusOf}
+use Rattle.printing.proofs.Putting.{puts-within}
+use Rattle.control_chart.proofs.Places.{counted}
 use Rattle.control_chart.specs.Input.{afterLine}
-use Rattle.control_chart.proofs.Places.{text-counts}
 use Rattle.control_chart.proofs.input.answered.Statement.{statement}
 use Rattle.control_chart.proofs.input.answered.Tie as tie
 
@@ -17,54 +18,20 @@ answer-line-requires : tie.Need-answer-line-requires
 answer-line-requires c κs = search needs
 
 array-share-prefix-out : tie.Need-array-share-prefix-out
-array-share-prefix-out c = text-counts (omega arith) (c .before .before .answer-line .ensures .0 .text) .0
+array-share-prefix-out c = puts-within (omega arith) (c .before .before .answer-line .ensures .0 .text)
 
-slice-aggregate-say : tie.Need-slice-aggregate-say
-slice-aggregate-say c = text-counts (omega arith) (c .before .before .before .answer-line .ensures .0 .text) .1
+slice-aggregate-after-answer : tie.Need-slice-aggregate-after-answer
+slice-aggregate-after-answer c = counted _ _ (puts-within (omega arith) (c .before .before .before .answer-line .ensures .0 .text))
 
-say-requires : tie.Need-say-requires
-say-requires c κs = search needs
-
-slice-aggregate-failure : tie.Need-slice-aggregate-failure
-slice-aggregate-failure c = search needs
-
-slice-aggregate-failure-2 : tie.Need-slice-aggregate-failure-2
-slice-aggregate-failure-2 c = search needs
-
-failure-requires : tie.Need-failure-requires
-failure-requires c κs = search needs
+after-answer-requires : tie.Need-after-answer-requires
+after-answer-requires c κs = search needs
 
 returns : tie.Need-returns
 unfolding afterLine
 returns c =
-    let answer = c .before .before .before .before .before .before .before .before in
-    record { chart = answer .answer-line .ensures .0 .chart; none = refl; status = c .failure .ensures }
-
-array-share-prefix-out-2 : tie.Need-array-share-prefix-out-2
-array-share-prefix-out-2 c = text-counts (omega arith) (c .before .before .before .before .before .answer-line .ensures .0 .text) .0
-
-slice-aggregate-exit-status : tie.Need-slice-aggregate-exit-status
-slice-aggregate-exit-status c =
-    text-counts (omega arith) (c .before .before .before .before .before .before .answer-line .ensures .0 .text) .1
-
-exit-status-requires : tie.Need-exit-status-requires
-exit-status-requires c κs = search needs
-
-higher-requires : tie.Need-higher-requires
-higher-requires c κs = search needs
-
-returns-2 : tie.Need-returns-2
-unfolding afterLine
-returns-2 c =
-    let told = c .before in
-    let answer = told .before .before .before .before .before .before .before in
-    let start = answer .before .before .before in
-    let text = front-is (answer .answer-line .ensures .1 (omega arith)) in
-    record {
-      chart = answer .answer-line .ensures .0 .chart;
-      none = refl;
-      status = c .higher .ensures ∙ ap (max (start .args .pending .status)) (told .exit-status .ensures ∙ ap statusOf text);
-    }
+    let answer = c .before .before .before .before .answer-line in
+    let text = front-is (answer .ensures .1 (omega arith)) in
+    rw (answer .ensures .0 .chart, text) at (c .after-answer .ensures)
 
 pub answered-spec : {M : Type 1} → statement M
 answered-spec =
@@ -73,14 +40,6 @@ answered-spec =
     slice-aggregate-answer-line
     answer-line-requires
     array-share-prefix-out
-    slice-aggregate-say
-    say-requires
-    slice-aggregate-failure
-    slice-aggregate-failure-2
-    failure-requires
-    returns
-    array-share-prefix-out-2
-    slice-aggregate-exit-status
-    exit-status-requires
-    higher-requires
-    returns-2)
+    slice-aggregate-after-answer
+    after-answer-requires
+    returns)

@@ -24,7 +24,7 @@ end-input-requires c κs = search needs
 returns : tie.Need-returns
 returns c =
     let taken = c .before .before .before in
-    let came = taken .take-all .ensures .1 in
+    let came = taken .take-all .ensures in
     let start = held-start _ _ (taken .before .before .zero-chart .ensures) refl refl in
     record { bytes = came .bytes; failed = came .failed; end = c .end-input .ensures _ (came .follows atStart start) }
 

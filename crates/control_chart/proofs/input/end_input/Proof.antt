@@ -1,6 +1,6 @@
 -- `control_chart::input::end_input` meets its contract.
 use borrow.Author.Needs.{needs}
-use Rattle.control_chart.proofs.Places.{counts}
+use Rattle.control_chart.proofs.Places.{counted}
 use Rattle.control_chart.proofs.Taking.{held-none, held-last}
 use Rattle.control_chart.proofs.input.end_input.Statement.{statement}
 use Rattle.control_chart.proofs.input.end_input.Tie as tie
@@ -11,7 +11,7 @@ returns c =
     λ s held. held-none s (start .args .pending) _ (start .pre) held (c .if1 .taken)
 
 slice-aggregate-end-line : tie.Need-slice-aggregate-end-line
-slice-aggregate-end-line c = counts _ _ (c .before .before .before .pre .within) .1
+slice-aggregate-end-line c = counted _ _ (c .before .before .before .pre .within)
 
 end-line-requires : tie.Need-end-line-requires
 end-line-requires c κs = search needs

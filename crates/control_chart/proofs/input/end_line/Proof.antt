@@ -1,6 +1,6 @@
 -- `control_chart::input::end_line` meets its contract.
 use borrow.Author.Needs.{needs}
-use Rattle.control_chart.proofs.Places.{counts}
+use Rattle.control_chart.proofs.Places.{counted}
 use Rattle.control_chart.proofs.Cutting.{ended-line}
 use Rattle.control_chart.proofs.input.end_line.Statement.{statement}
 use Rattle.control_chart.proofs.input.end_line.Tie as tie
@@ -9,7 +9,7 @@ without-return-requires : tie.Need-without-return-requires
 without-return-requires c κs = search needs
 
 slice-aggregate-text : tie.Need-slice-aggregate-text
-slice-aggregate-text c = counts _ _ (c .before .without-return .ensures .within) .1
+slice-aggregate-text c = counted _ _ (c .before .without-return .ensures .within)
 
 mark-size-requires : tie.Need-mark-size-requires
 mark-size-requires c κs = search needs

@@ -1,8 +1,7 @@
 -- `control_chart::input::read_some` meets its contract.
-use native.Mathlib.Omega.{arith}
 use borrow.Author.Needs.{needs}
 use lib.Dec.{ltb}
-use Rattle.guide.proofs.Booleans.{both}
+use Rattle.rules.proofs.Booleans.{both}
 use Rattle.control_chart.proofs.Taking.{read-came, read-failed}
 use Rattle.control_chart.proofs.input.read_some.Statement.{statement}
 use Rattle.control_chart.proofs.input.read_some.Tie as tie
@@ -26,7 +25,7 @@ failure-requires : tie.Need-failure-requires
 failure-requires c κs = search needs
 
 returns : tie.Need-returns
-returns c = (omega arith, read-failed _ _ _ (c .failure .ensures))
+returns c = read-failed _ _ _ (c .failure .ensures)
 
 slice-aggregate-count : tie.Need-slice-aggregate-count
 slice-aggregate-count c = search needs
@@ -50,8 +49,7 @@ returns-2 : tie.Need-returns-2
 returns-2 c =
     let taking = c .before .before in
     let n = taking .before .before .before .count .result in
-    let took = taking .take-bytes .ensures in
-    (took .0, read-came _ (took .1) (λ more. both (ltb 0 n) _ more .1))
+    read-came _ (taking .take-bytes .ensures) (λ more. both (ltb 0 n) _ more .1)
 
 pub read-some-spec : {M : Type 1} → statement M
 read-some-spec =

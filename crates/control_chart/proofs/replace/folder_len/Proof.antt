@@ -1,23 +1,29 @@
 -- `control_chart::replace::folder_len` meets its contract.
 use mathlib.Core.Path.{_≡_}
+use mathlib.Core.List.{List}
 use Prim.Native.Nat.{ℕ, _-_, _≤_, _<_, zero-le}
 use native.Mathlib.Omega.{arith}
 use denote.Ref.{now}
 use lib.ListN.{length, getD}
-use Rattle.guide.proofs.Integers.{by-order}
+use Rattle.rules.proofs.Integers.{by-order}
 use Rattle.control_chart.specs.Folder.{slashCode}
 use Rattle.control_chart.proofs.Places.{counts}
 use Rattle.control_chart.proofs.replace.folder_len.Statement.{statement}
 use Rattle.control_chart.proofs.replace.folder_len.Tie as tie
 
+-- there is no '/' from n on
+pub record NoneFrom (path : List ℕ) (n : ℕ) : Type 0 where
+  pub within : n ≤ length path
+  pub none : (i : ℕ) → n ≤ i → i < length path → getD path i 0 ≡ slashCode → ⊥
+
 abbrev Inv-loop : tie.InvT-loop
-Inv-loop path n₀ n = (n ≤ length path) × ((i : ℕ) → n ≤ i → i < length path → getD path i 0 ≡ slashCode → ⊥)
+Inv-loop path n₀ n = NoneFrom path n
 
 abbrev μ-loop : tie.MeasureT-loop
 μ-loop path n₀ n = n
 
 loop-holds : tie.Need-loop-holds Inv-loop μ-loop
-loop-holds c = (omega arith, λ i from less e. omega arith)
+loop-holds c = record { within = omega arith; none = λ i from less e. omega arith }
 
 sub-if1 : tie.Need-sub-if1 Inv-loop μ-loop
 sub-if1 c = omega arith
@@ -27,8 +33,8 @@ shared-slice-read-if1 c = omega arith
 
 returns : tie.Need-returns Inv-loop μ-loop
 returns c =
-    let l = c .before .before .before in
-    (record { within = l .loop .inv .0; slash = λ _. c .if1 .taken; last = l .loop .inv .1 }, counts _ _ (l .loop .inv .0))
+    let inv = c .before .before .before .loop .inv in
+    (record { within = inv .within; slash = λ _. c .if1 .taken; last = inv .none }, counts _ _ (inv .within))
 
 sub-n : tie.Need-sub-n Inv-loop μ-loop
 sub-n c = omega arith
@@ -39,16 +45,18 @@ loop-less c = omega arith
 loop-again : tie.Need-loop-again Inv-loop μ-loop
 loop-again c =
     let l = c .before .before .before in
-    let n = l .loop .n in (
-      omega arith,
-      λ i from less e.
-          by-order i n (λ h. l .loop .inv .1 i h less e) (λ h. let same : n - 1 ≡ i = omega arith in c .if1 .left (rw same e)),
-    )
+    let n = l .loop .n in
+    record {
+      within = omega arith;
+      none = λ i from less e.
+          by-order i n (λ h. l .loop .inv .none i h less e) (λ h. let same : n - 1 ≡ i = omega arith in c .if1 .left (rw same e));
+    }
 
 returns-2 : tie.Need-returns-2 Inv-loop μ-loop
 returns-2 c =
-    let l = c .before in (
-      record { within = zero-le; slash = λ h. absurd (omega arith); last = λ i from. l .loop .inv .1 i (omega (arith, c .loop-test .left)) },
+    let l = c .before in
+    let none = l .loop .inv .none in (
+      record { within = zero-le; slash = λ h. absurd (omega arith); last = λ i from. none i (omega (arith, c .loop-test .left)) },
       counts 0 (now (l .before .args .path)) zero-le,
     )
 

@@ -1,7 +1,7 @@
 -- `judging::reanalysis::passes` meets its contract.
 use borrow.Author.Needs.{needs}
 use mir.Facts.{toZ-ofZ}
-use Rattle.guide.specs.Reanalysis.{passes}
+use Rattle.rules.specs.Reanalysis.{passes}
 use Rattle.judging.proofs.reanalysis.passes.Statement.{statement}
 use Rattle.judging.proofs.reanalysis.passes.Tie as tie
 

@@ -4,7 +4,7 @@ use mathlib.Core.Bool.{_||_, not}
 use borrow.Author.Needs.{needs}
 use denote.Ref.{now}
 use mir.Facts.{toZ-ofZ}
-use Rattle.guide.specs.Reanalysis.{passesSide}
+use Rattle.rules.specs.Reanalysis.{passesSide}
 use Rattle.limits.specs.Sums.{limitsSay}
 use Rattle.judging.proofs.reanalysis.passes_side.Statement.{statement}
 use Rattle.judging.proofs.reanalysis.passes_side.Tie as tie

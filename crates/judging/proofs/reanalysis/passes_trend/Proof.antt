@@ -4,7 +4,7 @@ use mathlib.Core.Bool.{_||_}
 use borrow.Author.Needs.{needs}
 use denote.Ref.{now}
 use mir.Facts.{toZ-ofZ}
-use Rattle.guide.specs.Reanalysis.{passesTrend}
+use Rattle.rules.specs.Reanalysis.{passesTrend}
 use Rattle.limits.specs.Sums.{limitsSay}
 use Rattle.judging.proofs.reanalysis.passes_trend.Statement.{statement}
 use Rattle.judging.proofs.reanalysis.passes_trend.Tie as tie

@@ -6,7 +6,7 @@ use borrow.Author.Tests.{eq-eqb, ne-eqb}
 use denote.Ref.{now}
 use lib.Dec.{eqb}
 use mir.Facts.{toZ-ofZ}
-use Rattle.guide.specs.Reanalysis.{passesWarning, passesTrend, passesSide, passesVerdict}
+use Rattle.rules.specs.Reanalysis.{passesWarning, passesTrend, passesSide, passesVerdict}
 use Rattle.limits.specs.Sums.{limitsSay}
 use Rattle.judging.proofs.reanalysis.passes_verdict.Statement.{statement}
 use Rattle.judging.proofs.reanalysis.passes_verdict.Tie as tie

@@ -3,8 +3,8 @@ use mathlib.Core.Path.{ap, _∙_}
 use mathlib.Core.Bool.{_||_, not}
 use borrow.Author.Needs.{needs}
 use mir.Facts.{toZ-ofZ}
-use Rattle.guide.specs.Limits.{beyond, beyondWarning, beyondUpperWarning, beyondLowerWarning}
-use Rattle.guide.specs.Reanalysis.{passesWarning}
+use Rattle.rules.specs.Limits.{beyond, beyondWarning, beyondUpperWarning, beyondLowerWarning}
+use Rattle.rules.specs.Reanalysis.{passesWarning}
 use Rattle.limits.specs.Sums.{limitsSay}
 use Rattle.judging.proofs.reanalysis.passes_warning.Statement.{statement}
 use Rattle.judging.proofs.reanalysis.passes_warning.Tie as tie

@@ -3,7 +3,7 @@ use native.Mathlib.Omega.{arith}
 use borrow.Author.Needs.{needs, sfits-of}
 use denote.Ref.{now}
 use mir.Facts.{toZ-ofZ}
-use Rattle.guide.specs.LastWords.{oneBeforeLast}
+use Rattle.rules.specs.LastWords.{oneBeforeLast}
 use Rattle.judging.proofs.Judging.{no-trend, turned-back}
 use Rattle.judging.proofs.reanalysis.turns_back.Statement.{statement}
 use Rattle.judging.proofs.reanalysis.turns_back.Tie as tie

@@ -5,9 +5,9 @@ use borrow.Author.Needs.{needs, sfits-of}
 use denote.Ref.{now}
 use lib.ListN.{length}
 use mir.Facts.{toZ-ofZ}
-use Rattle.guide.specs.Limits.{beyondControl}
-use Rattle.guide.specs.LastWords.{lastWord}
-use Rattle.guide.specs.Verdict.{controlTest}
+use Rattle.rules.specs.Limits.{beyondControl}
+use Rattle.rules.specs.LastWords.{lastWord}
+use Rattle.rules.specs.Verdict.{controlTest}
 use Rattle.limits.specs.Sums.{limitsSay}
 use Rattle.judging.proofs.Judging.{with-fewer, with-enough}
 use Rattle.judging.proofs.verdict.control_test.Statement.{statement}

@@ -1,6 +1,6 @@
 -- `judging::verdict::judges_side` meets its contract.
 use mathlib.Core.Path.{refl}
-use Rattle.guide.specs.Kind.{judgesSide}
+use Rattle.rules.specs.Kind.{judgesSide}
 use Rattle.judging.proofs.verdict.judges_side.Statement.{statement}
 use Rattle.judging.proofs.verdict.judges_side.Tie as tie
 

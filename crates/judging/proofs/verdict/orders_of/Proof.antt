@@ -1,29 +1,25 @@
 -- `judging::verdict::orders_of` meets its contract. The loop's invariant, for rising and for falling: the result for the words before i,
 -- joined with the result for the words from i − 1 on, is the result for all words.
-use mathlib.Core.Path.{_≡_, refl}
-use mathlib.Core.Bool.{_&&_}
-use Prim.Native.Nat.{_+_, _-_, _≤_}
+use mathlib.Core.Path.{refl}
+use Prim.Native.Nat.{_-_}
 use native.Mathlib.Omega.{arith}
 use borrow.Author.Needs.{needs, sfits-of}
 use denote.Ref.{now}
-use lib.ListN.{length, drop}
+use lib.ListN.{length}
 use mir.Facts.{toZ-ofZ}
-use Rattle.guide.specs.Verdict.{eachNext, rises, falls}
-use Rattle.judging.proofs.Judging.{order-turn, order-end}
+use Rattle.rules.specs.Verdict.{rises, falls}
+use Rattle.judging.proofs.Judging.{OrdersSoFar, order-turn, order-end}
 use Rattle.judging.proofs.verdict.orders_of.Statement.{statement}
 use Rattle.judging.proofs.verdict.orders_of.Tie as tie
 
 abbrev Inv-loop : tie.InvT-loop
-Inv-loop words rising₀ falling₀ i₀ rising falling i =
-    (1 ≤ i)
-    × ((rising && eachNext rises (drop (i - 1) words)) ≡ eachNext rises words)
-    × ((falling && eachNext falls (drop (i - 1) words)) ≡ eachNext falls words)
+Inv-loop words rising₀ falling₀ i₀ rising falling i = OrdersSoFar words i rising falling
 
 abbrev μ-loop : tie.MeasureT-loop
 μ-loop words rising₀ falling₀ i₀ rising falling i = length words - i
 
 loop-holds : tie.Need-loop-holds Inv-loop μ-loop
-loop-holds c = (omega arith, refl, refl)
+loop-holds c = record { some = omega arith; rising = refl; falling = refl }
 
 sub-before : tie.Need-sub-before Inv-loop μ-loop
 sub-before c = omega arith
@@ -49,23 +45,23 @@ loop-less c = omega arith
 loop-again : tie.Need-loop-again Inv-loop μ-loop
 loop-again c =
     let l = c .before .before .before .loop in
-    let more : 1 ≤ l .i + 1 = omega arith in
     let words = now (c .before .before .before .before .args .words) in
     let inside = c .before .before .loop-test .taken in
     let before = toZ-ofZ (sfits-of (c .before .before2 .given)) in
-    let word = toZ-ofZ (sfits-of (c .w .given)) in (
-      more,
-      order-turn rises words (l .i) (l .rising) (l .inv .1) (l .inv .0) inside before word,
-      order-turn falls words (l .i) (l .falling) (l .inv .2) (l .inv .0) inside before word,
-    )
+    let word = toZ-ofZ (sfits-of (c .w .given)) in
+    record {
+      some = omega arith;
+      rising = order-turn rises words (l .i) (l .rising) (l .inv .rising) (l .inv .some) inside before word;
+      falling = order-turn falls words (l .i) (l .falling) (l .inv .falling) (l .inv .some) inside before word;
+    }
 
 returns : tie.Need-returns Inv-loop μ-loop
 returns c =
     let words = now (c .before .before .args .words) in
     let l = c .before .loop in
     record {
-      rising = order-end rises words (l .i) (l .rising) (l .inv .1) (c .loop-test .left);
-      falling = order-end falls words (l .i) (l .falling) (l .inv .2) (c .loop-test .left);
+      rising = order-end rises words (l .i) (l .rising) (l .inv .rising) (c .loop-test .left);
+      falling = order-end falls words (l .i) (l .falling) (l .inv .falling) (c .loop-test .left);
     }
 
 pub orders-of-spec : {M : Type 1} → statement M

@@ -1,7 +1,7 @@
 -- `judging::verdict::side_test` meets its contract.
 use mathlib.Core.Bool.{_&&_, _||_}
 use borrow.Author.Needs.{needs}
-use Rattle.guide.specs.Verdict.{sideTest}
+use Rattle.rules.specs.Verdict.{sideTest}
 use Rattle.judging.proofs.verdict.side_test.Statement.{statement}
 use Rattle.judging.proofs.verdict.side_test.Tie as tie
 

@@ -1,30 +1,26 @@
 -- `judging::verdict::sides_of` meets its contract. The loop's invariant, for above and for below: the result for the words before i, joined
 -- with the result for the words from i on, is the result for all words.
-use mathlib.Core.Path.{_≡_, refl}
-use mathlib.Core.Bool.{_&&_}
+use mathlib.Core.Path.{refl}
 use Prim.Native.Nat.{_-_}
 use native.Mathlib.Omega.{arith}
 use borrow.Author.Needs.{needs, sfits-of}
 use denote.Ref.{now}
-use lib.ListN.{length, drop}
+use lib.ListN.{length}
 use mir.Facts.{toZ-ofZ}
-use Rattle.guide.specs.AllOf.{allOf}
-use Rattle.guide.specs.Limits.{aboveMean, belowMean}
+use Rattle.rules.specs.Limits.{aboveMean, belowMean}
 use Rattle.limits.specs.Sums.{sumsSay}
-use Rattle.judging.proofs.Judging.{test-turn, test-end}
+use Rattle.judging.proofs.Judging.{SidesSoFar, test-turn, test-end}
 use Rattle.judging.proofs.verdict.sides_of.Statement.{statement}
 use Rattle.judging.proofs.verdict.sides_of.Tie as tie
 
 abbrev Inv-loop : tie.InvT-loop
-Inv-loop l words above₀ below₀ i₀ above below i =
-    ((above && allOf (aboveMean (sumsSay (l .sums))) (drop i words)) ≡ allOf (aboveMean (sumsSay (l .sums))) words)
-    × ((below && allOf (belowMean (sumsSay (l .sums))) (drop i words)) ≡ allOf (belowMean (sumsSay (l .sums))) words)
+Inv-loop l words above₀ below₀ i₀ above below i = SidesSoFar (sumsSay (l .sums)) words i above below
 
 abbrev μ-loop : tie.MeasureT-loop
 μ-loop l words above₀ below₀ i₀ above below i = length words - i
 
 loop-holds : tie.Need-loop-holds Inv-loop μ-loop
-loop-holds c = (refl, refl)
+loop-holds c = record { above = refl; below = refl }
 
 mul-side-of-mean : tie.Need-mul-side-of-mean Inv-loop μ-loop
 mul-side-of-mean c = search needs
@@ -49,10 +45,11 @@ loop-again c =
     let sums = sumsSay (l .before .args .l .sums) in
     let inside = called .before .before .loop-test .taken in
     let word = toZ-ofZ (sfits-of (called .before .side-of-mean-arg .given)) in
-    let is = called .side-of-mean .ensures in (
-      test-turn (aboveMean sums) words (l .loop .i) (l .loop .above) (l .loop .inv .0) inside word (is .above),
-      test-turn (belowMean sums) words (l .loop .i) (l .loop .below) (l .loop .inv .1) inside word (is .below),
-    )
+    let is = called .side-of-mean .ensures in
+    record {
+      above = test-turn (aboveMean sums) words (l .loop .i) (l .loop .above) (l .loop .inv .above) inside word (is .above);
+      below = test-turn (belowMean sums) words (l .loop .i) (l .loop .below) (l .loop .inv .below) inside word (is .below);
+    }
 
 returns : tie.Need-returns Inv-loop μ-loop
 returns c =
@@ -60,8 +57,8 @@ returns c =
     let words = now (c .before .before .args .words) in
     let sums = sumsSay (c .before .before .args .l .sums) in
     record {
-      above = test-end (aboveMean sums) words (l .i) (l .above) (l .inv .0) (c .loop-test .left);
-      below = test-end (belowMean sums) words (l .i) (l .below) (l .inv .1) (c .loop-test .left);
+      above = test-end (aboveMean sums) words (l .i) (l .above) (l .inv .above) (c .loop-test .left);
+      below = test-end (belowMean sums) words (l .i) (l .below) (l .inv .below) (c .loop-test .left);
     }
 
 pub sides-of-spec : {M : Type 1} → statement M

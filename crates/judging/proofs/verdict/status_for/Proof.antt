@@ -1,6 +1,6 @@
 -- `judging::verdict::status_for` meets its contract.
 use borrow.Author.Tests.{eq-eqb, ne-eqb}
-use Rattle.guide.specs.Verdict.{statusFor}
+use Rattle.rules.specs.Verdict.{statusFor}
 use Rattle.judging.proofs.verdict.status_for.Statement.{statement}
 use Rattle.judging.proofs.verdict.status_for.Tie as tie
 

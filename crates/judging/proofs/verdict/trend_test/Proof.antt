@@ -1,7 +1,7 @@
 -- `judging::verdict::trend_test` meets its contract.
 use mathlib.Core.Bool.{_||_}
 use borrow.Author.Needs.{needs}
-use Rattle.guide.specs.Verdict.{trendTest}
+use Rattle.rules.specs.Verdict.{trendTest}
 use Rattle.judging.proofs.verdict.trend_test.Statement.{statement}
 use Rattle.judging.proofs.verdict.trend_test.Tie as tie
 

@@ -5,9 +5,9 @@ use mathlib.Core.List.{List}
 use borrow.Author.Needs.{needs}
 use denote.Ref.{now}
 use lib.IntN.{ℤ}
-use Rattle.guide.specs.Limits.{Limits}
-use Rattle.guide.specs.Verdict.{verdict, IsVerdict, controlTest, warningTest, sideTest, trendTest}
-use Rattle.guide.proofs.Verdict.{verdict-is}
+use Rattle.rules.specs.Limits.{Limits}
+use Rattle.rules.specs.Verdict.{verdict, IsVerdict, controlTest, warningTest, sideTest, trendTest}
+use Rattle.rules.proofs.Verdict.{verdict-is}
 use Rattle.limits.specs.Sums.{limitsSay}
 use Rattle.judging.proofs.verdict.verdict.Statement.{statement}
 use Rattle.judging.proofs.verdict.verdict.Tie as tie

@@ -3,7 +3,7 @@ use native.Mathlib.Omega.{arith}
 use borrow.Author.Needs.{needs, sfits-of}
 use denote.Ref.{now}
 use mir.Facts.{toZ-ofZ}
-use Rattle.guide.specs.LastWords.{lastWord, oneBeforeLast}
+use Rattle.rules.specs.LastWords.{lastWord, oneBeforeLast}
 use Rattle.limits.specs.Sums.{limitsSay}
 use Rattle.judging.proofs.Judging.{no-warning, both-beyond}
 use Rattle.judging.proofs.verdict.warning_test.Statement.{statement}

@@ -14,18 +14,19 @@ v-of-requires c κs = search needs
 
 mul-square-root : tie.Need-mul-square-root
 mul-square-root c =
-    let a = c .before in
-    omega (arith, square-small (a .args .m) (a .pre .0))
+    let (few, has) = c .before .pre in
+    omega (arith, square-small (c .before .args .m) few)
 
 mul-square-root-2 : tie.Need-mul-square-root-2
 mul-square-root-2 c =
-    let a = c .before in
-    omega (arith, nv-small (a .args .s) (a .pre .1) (c .v-of .result) (c .v-of .ensures))
+    let (few, has) = c .before .pre in
+    omega (arith, nv-small (c .before .args .s) has (c .v-of .result) (c .v-of .ensures))
 
 mul-square-root-3 : tie.Need-mul-square-root-3
 mul-square-root-3 c =
     let a = c .before in
-    record { fits = product-fits (a .args .s) (a .pre .1) (c .v-of .result) (c .v-of .ensures) (a .args .m) (a .pre .0) }
+    let (few, has) = a .pre in
+    record { fits = product-fits (a .args .s) has (c .v-of .result) (c .v-of .ensures) (a .args .m) few }
 
 sub-square-root : tie.Need-sub-square-root
 sub-square-root c = search needs

@@ -4,7 +4,7 @@ use native.Mathlib.Omega.{arith}
 use borrow.Author.Needs.{needs}
 use lib.IntN.{natAbs}
 use mir.Syntax.{w64}
-use Rattle.guide.proofs.Complement.{Complement, complement, Natural, natural}
+use Rattle.rules.proofs.Complement.{Complement, complement, Natural, natural}
 use Rattle.lines.proofs.Quotients.{quotient-fits, complement-quotient, natural-quotient}
 use Rattle.lines.proofs.parts.quotient_down.Statement.{statement}
 use Rattle.lines.proofs.parts.quotient_down.Tie as tie

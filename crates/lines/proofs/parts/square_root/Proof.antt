@@ -1,7 +1,7 @@
 -- `lines::parts::square_root` meets its contract. The loop's invariant: the guess is not below the root. The guess falls at each turn.
 use native.Mathlib.Omega.{arith}
 use lib.Count.{leading-le}
-use Rattle.guide.proofs.SquareRoot.{root-only}
+use Rattle.rules.proofs.SquareRoot.{root-only}
 use Rattle.lines.proofs.Newton.{IsGuess, half-few, first-guess, next-less, next-guess, root-found, root-fits}
 use Rattle.lines.proofs.parts.square_root.Statement.{statement}
 use Rattle.lines.proofs.parts.square_root.Tie as tie

@@ -38,8 +38,8 @@ returns : tie.Need-returns
 returns c =
     let start = c .before .before .before in
     let fits = c .struct-told3 .given in
-    stored (now (start .args .answers)) (start .args .place) (start .args .said) (sfits-of (fits .0 .1)) (sfits-of (fits .1 .0 .1))
-    (sfits-of (fits .1 .1 .0 .1))
+    stored (now (start .args .answers)) (start .args .place) (start .args .said) (start .pre)
+    (sfits-of (fits .0 .1)) (sfits-of (fits .1 .0 .1)) (sfits-of (fits .1 .1 .0 .1))
 
 pub put-answer-spec : {M : Type 1} → statement M
 put-answer-spec =

@@ -3,7 +3,7 @@ use native.Mathlib.Omega.{arith}
 use borrow.Author.Needs.{needs, sfits-of}
 use mir.Syntax.{w64}
 use mir.ValLaws.{toZ-pos}
-use Rattle.guide.proofs.Held.{cast-word, cast-fits}
+use Rattle.rules.proofs.Held.{cast-word, cast-fits}
 use Rattle.chart.specs.Calls.{postSays}
 use Rattle.lists.specs.Encoding.{numbersOf}
 use Rattle.lists.proofs.Numbers.{three-are}

@@ -1,7 +1,7 @@
 -- `lists::answers::said_by_reanalysis` meets its contract.
 use mathlib.Core.Path.{refl}
 use borrow.Author.Needs.{needs, sfits-of}
-use Rattle.guide.proofs.Held.{cast-word, cast-fits}
+use Rattle.rules.proofs.Held.{cast-word, cast-fits}
 use Rattle.chart.specs.Calls.{reanalysisSays}
 use Rattle.lists.specs.Encoding.{numbersOf, passedNumber}
 use Rattle.lists.proofs.Numbers.{three-are}

@@ -5,7 +5,7 @@ use native.Mathlib.Omega.{arith}
 use borrow.Author.Needs.{needs}
 use mir.Syntax.{w64}
 use mir.ValLaws.{toZ-pos}
-use Rattle.guide.specs.Sizes.{baseMost}
+use Rattle.rules.specs.Sizes.{baseMost}
 use Rattle.chart.specs.Calls.{renewalSays}
 use Rattle.lists.specs.Encoding.{numbersOf}
 use Rattle.lists.proofs.Numbers.{three-are}

@@ -7,7 +7,7 @@ use lib.IntN.{pos}
 use borrow.Author.Needs.{needs, sfits-of}
 use denote.Ref.{now}
 use mir.Facts.{toZ-ofZ}
-use Rattle.guide.proofs.Booleans.{answered-no, answered-yes}
+use Rattle.rules.proofs.Booleans.{answered-no, answered-yes}
 use Rattle.lists.specs.Encoding.{isCallNumber, areCalls}
 use Rattle.lists.proofs.Decoding.{are-calls-fails, are-calls-passes, are-calls-end}
 use Rattle.lists.proofs.calls.are_calls.Statement.{statement}

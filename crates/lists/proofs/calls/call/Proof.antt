@@ -1,7 +1,7 @@
 -- `lists::calls::call` meets its contract.
 use borrow.Author.Needs.{needs}
 use mir.Facts.{toZ-ofZ}
-use Rattle.guide.specs.Machine.{renewal}
+use Rattle.rules.specs.Machine.{renewal}
 use Rattle.lists.proofs.Decoding.{post-is, reanalysis-is, correction-is, renewal-is}
 use Rattle.lists.proofs.Running.{called, counted}
 use Rattle.lists.proofs.calls.call.Statement.{statement}

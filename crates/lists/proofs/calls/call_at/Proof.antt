@@ -13,17 +13,17 @@ mul-number c = search needs
 shared-slice-copy-out-number : tie.Need-shared-slice-copy-out-number
 shared-slice-copy-out-number c = search needs
 
-add-kind-of : tie.Need-add-kind-of
-add-kind-of c = search needs
+add-kind-in-call : tie.Need-add-kind-in-call
+add-kind-in-call c = search needs
 
-mul-kind-of : tie.Need-mul-kind-of
-mul-kind-of c = search needs
+mul-kind-in-call : tie.Need-mul-kind-in-call
+mul-kind-in-call c = search needs
 
-shared-slice-copy-out-kind-of : tie.Need-shared-slice-copy-out-kind-of
-shared-slice-copy-out-kind-of c = search needs
+shared-slice-copy-out-kind-in-call : tie.Need-shared-slice-copy-out-kind-in-call
+shared-slice-copy-out-kind-in-call c = search needs
 
-kind-of-requires : tie.Need-kind-of-requires
-kind-of-requires c κs = search needs
+kind-in-call-requires : tie.Need-kind-in-call-requires
+kind-in-call-requires c κs = search needs
 
 add-a : tie.Need-add-a
 add-a c = search needs
@@ -70,9 +70,9 @@ made c =
     let kind = first .before in
     let number = kind .before .before in
     let a = number .before .args in
-    let e = call-read (now (a .calls)) (a .at) (kind .kind-of .result) (sfits-of (number .number .given))
-    (sfits-of (kind .before .kind-of-arg .given)) (sfits-of (first .a .given)) (sfits-of (second .b .given))
-    (sfits-of (c .before .c .given)) (kind .kind-of .ensures) in
+    let e = call-read (now (a .calls)) (a .at) (kind .kind-in-call .result) (sfits-of (number .number .given))
+    (sfits-of (kind .before .kind-in-call-arg .given)) (sfits-of (first .a .given)) (sfits-of (second .b .given))
+    (sfits-of (c .before .c .given)) (kind .kind-in-call .ensures) in
     rw e at (c .call .ensures)
 
 returns : tie.Need-returns
@@ -84,10 +84,10 @@ call-at-spec =
     (tie.spec
     mul-number
     shared-slice-copy-out-number
-    add-kind-of
-    mul-kind-of
-    shared-slice-copy-out-kind-of
-    kind-of-requires
+    add-kind-in-call
+    mul-kind-in-call
+    shared-slice-copy-out-kind-in-call
+    kind-in-call-requires
     add-a
     mul-a
     shared-slice-copy-out-a

@@ -4,7 +4,7 @@ use native.Mathlib.Omega.{arith}
 use borrow.Author.Needs.{needs}
 use denote.Ref.{now}
 use lib.ListN.{length}
-use Rattle.guide.proofs.Booleans.{answered-no, answered-yes}
+use Rattle.rules.proofs.Booleans.{answered-no, answered-yes}
 use Rattle.parsing.proofs.FirstField.{BlanksUpTo, no-blanks-yet, one-blank-more, blanks-stop}
 use Rattle.parsing.proofs.fields.after_blanks.Statement.{statement}
 use Rattle.parsing.proofs.fields.after_blanks.Tie as tie

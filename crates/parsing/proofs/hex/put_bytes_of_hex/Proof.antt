@@ -56,7 +56,7 @@ loop-again : tie.Need-loop-again Inv-loop μ-loop
 loop-again c =
     let l = c .before .before .before .before .before in
     one-put (l .before .before .before .pre) (l .loop .inv) (c .before .before .before .before .loop-test .taken)
-    (c .before .before .hex-value .ensures .0) (c .hex-value2 .ensures .0)
+    (c .before .before .hex-value .ensures .value) (c .hex-value2 .ensures .value)
 
 same-length : tie.Need-same-length Inv-loop μ-loop
 same-length c = c .before .loop .inv .size

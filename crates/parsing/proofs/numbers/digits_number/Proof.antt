@@ -2,7 +2,7 @@
 use mathlib.Core.Path.{_∙_, ap}
 use borrow.Author.Needs.{needs}
 use denote.Ref.{now}
-use Rattle.guide.proofs.Booleans.{answered-no, answered-yes}
+use Rattle.rules.proofs.Booleans.{answered-no, answered-yes}
 use Rattle.parsing.specs.Number.{valueOf, signedValue, digitsNumber, numberSays}
 use Rattle.parsing.proofs.Values.{signed-counted}
 use Rattle.parsing.proofs.numbers.digits_number.Statement.{statement}

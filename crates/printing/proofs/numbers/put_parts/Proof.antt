@@ -1,57 +1,61 @@
--- `printing::numbers::put_parts` meets its contract, by the number's sign.
+-- `printing::numbers::put_parts` meets its contract: the sign, the whole part, the point and the decimals, one after the other.
 use borrow.Author.Needs.{needs}
-use Rattle.printing.proofs.Signs.{signed-parts, puts-below, puts-not-below}
+use Rattle.printing.specs.Decimal.{partsNatural, partsDecimal}
+use Rattle.printing.proofs.Putting.{puts-then}
+use Rattle.printing.proofs.Signs.{puts-signed}
 use Rattle.printing.proofs.numbers.put_parts.Statement.{statement}
 use Rattle.printing.proofs.numbers.put_parts.Tie as tie
 
-put-byte-requires : tie.Need-put-byte-requires
-put-byte-requires c κs = search needs
+put-sign-requires : tie.Need-put-sign-requires
+put-sign-requires c κs = search needs
 
 magnitude-requires : tie.Need-magnitude-requires
 magnitude-requires c κs = search needs
 
-put-natural-parts-requires : tie.Need-put-natural-parts-requires
-put-natural-parts-requires c κs = search needs
+div-put-decimal : tie.Need-div-put-decimal
+div-put-decimal c = search needs
+
+put-decimal-requires : tie.Need-put-decimal-requires
+put-decimal-requires c κs = search needs
+
+put-byte-requires : tie.Need-put-byte-requires
+put-byte-requires c κs = search needs
+
+rem-put-last-digits : tie.Need-rem-put-last-digits
+rem-put-last-digits c = search needs
+
+mul-put-last-digits : tie.Need-mul-put-last-digits
+mul-put-last-digits c = search needs
+
+put-last-digits-requires : tie.Need-put-last-digits-requires
+put-last-digits-requires c κs = search needs
 
 same-length : tie.Need-same-length
 same-length c = search needs
 
 returns : tie.Need-returns
+unfolding partsDecimal partsNatural
 returns c =
-    let rest = c .before .before in
-    let sign = rest .before .before .before .before .before in
-    let below = sign .before .before in
-    let start = below .before .before in
-    puts-below signed-parts (start .args .k) (start .fits .k) (rest .before .magnitude .ensures) (below .if1 .taken)
-    (sign .put-byte .ensures) (rest .put-natural-parts .ensures)
-
-magnitude-requires-2 : tie.Need-magnitude-requires-2
-magnitude-requires-2 c κs = search needs
-
-put-natural-parts-requires-2 : tie.Need-put-natural-parts-requires-2
-put-natural-parts-requires-2 c κs = search needs
-
-same-length-2 : tie.Need-same-length-2
-same-length-2 c = search needs
-
-returns-2 : tie.Need-returns-2
-returns-2 c =
-    let all = c .before .before in
-    let other = all .before .before .before in
-    let start = other .before .before in
-    puts-not-below signed-parts (start .args .k) (start .fits .k) (all .before .magnitude2 .ensures) (other .if1 .left)
-    (all .put-natural-parts2 .ensures)
+    let decimals = c .before .before in
+    let point = decimals .before .before .before .before in
+    let whole = point .before .before .before .before in
+    let size = whole .before .before in
+    let sign = size .before .before .before in
+    let start = sign .before .before .before in
+    puts-signed (start .args .k) (start .fits .k) partsNatural (size .magnitude .ensures) (sign .put-sign .ensures)
+    (puts-then (whole .put-decimal .ensures) (puts-then (point .put-byte .ensures) (decimals .put-last-digits .ensures)))
 
 pub put-parts-spec : {M : Type 1} → statement M
 put-parts-spec =
     tie.close
     (tie.spec
-    put-byte-requires
+    put-sign-requires
     magnitude-requires
-    put-natural-parts-requires
+    div-put-decimal
+    put-decimal-requires
+    put-byte-requires
+    rem-put-last-digits
+    mul-put-last-digits
+    put-last-digits-requires
     same-length
-    returns
-    magnitude-requires-2
-    put-natural-parts-requires-2
-    same-length-2
-    returns-2)
+    returns)

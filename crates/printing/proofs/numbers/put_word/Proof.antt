@@ -1,6 +1,6 @@
 -- `printing::numbers::put_word` meets its contract: a space, and the word after it.
 use borrow.Author.Needs.{needs}
-use Rattle.guide.proofs.Held.{cast-word, cast-fits}
+use Rattle.rules.proofs.Held.{cast-word, cast-fits}
 use Rattle.printing.proofs.Putting.{puts-then}
 use Rattle.printing.proofs.numbers.put_word.Statement.{statement}
 use Rattle.printing.proofs.numbers.put_word.Tie as tie
@@ -9,7 +9,7 @@ put-byte-requires : tie.Need-put-byte-requires
 put-byte-requires c κs = search needs
 
 cast-put-signed : tie.Need-cast-put-signed
-cast-put-signed c = cast-fits (c .before .before .before .before .before .before .fits .w)
+cast-put-signed c = let blank = c .before .before .before in cast-fits (blank .before .before .before .fits .w)
 
 put-signed-requires : tie.Need-put-signed-requires
 put-signed-requires c κs = search needs

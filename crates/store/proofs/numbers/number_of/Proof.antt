@@ -3,7 +3,7 @@ use mathlib.Core.Path.{_∙_, ap, sym}
 use native.Mathlib.Omega.{arith}
 use lib.IntN.{natAbs}
 use mir.Syntax.{w16}
-use Rattle.guide.proofs.Complement.{Complement, complement, Natural, natural}
+use Rattle.rules.proofs.Complement.{Complement, complement, Natural, natural}
 use Rattle.store.proofs.TwoBytes.{bits-are}
 use Rattle.store.proofs.numbers.number_of.Statement.{statement}
 use Rattle.store.proofs.numbers.number_of.Tie as tie

@@ -3,7 +3,7 @@ use native.Mathlib.Omega.{arith}
 use borrow.Author.Needs.{needs}
 use denote.Ref.{now}
 use lib.ListN.{length-set}
-use Rattle.store.proofs.Placed.{placed-number}
+use Rattle.store.proofs.TwoBytes.{placed-number}
 use Rattle.store.proofs.numbers.put_number.Statement.{statement}
 use Rattle.store.proofs.numbers.put_number.Tie as tie
 

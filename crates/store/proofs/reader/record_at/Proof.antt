@@ -45,15 +45,18 @@ number-at-requires-2 : tie.Need-number-at-requires-2
 number-at-requires-2 c κs = search needs
 
 sub-t12 : tie.Need-sub-t12
-sub-t12 c = let call = c .before .before .before in is-length (call .number-at .result) (c .before .before .if3 .left) .0
+sub-t12 c =
+    let call = c .before .before .before in
+    let (least, even) = is-length (call .number-at .result) (c .before .before .if3 .left) in
+    least
 
 returns-5 : tie.Need-returns-5
 returns-5 c =
     let call = c .before .before .before in
     let a = call .before .before .before .before .args in
-    let is = is-length (call .number-at .result) (c .before .before .if3 .left) in
+    let (two, halves) = is-length (call .number-at .result) (c .before .before .if3 .left) in
     record-there (a .cursor .at) (a .bytes .now) (call .number-at .result) (c .number-at2 .result)
-    (call .number-at .ensures) (c .number-at2 .ensures) (record { least = is .0; even = is .1; enough = omega arith })
+    (call .number-at .ensures) (c .number-at2 .ensures) (record { least = two; even = halves; enough = omega arith })
 
 pub record-at-spec : {M : Type 1} → statement M
 record-at-spec =

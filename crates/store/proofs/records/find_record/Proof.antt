@@ -1,7 +1,7 @@
 -- `store::records::find_record` meets its contract. What `see_record_at` saw at the cursor is the record that is asked for, or it is not.
 use borrow.Author.Needs.{needs}
 use mathlib.Core.Path.{_≡_, sym, _∙_}
-use Prim.Native.Nat.{_+_, _*_, _≤_}
+use Prim.Native.Nat.{ℕ, _+_, _*_, _≤_}
 use native.Mathlib.Omega.{arith}
 use lib.ListN.{length, drop}
 use Rattle.store.specs.declared.reader.Seen.the-variants as seen
@@ -11,13 +11,19 @@ use Rattle.store.proofs.records.find_record.Statement.{statement}
 use Rattle.store.proofs.records.find_record.Tie as tie
 
 -- what was seen, if it is a record
+abbrev kind : tie.After-kind → ℕ
+kind c = c .kind .given .0 .0
+
+abbrev count : tie.After-kind → ℕ
+count c = c .kind .given .0 .1 .0
+
 saw : (c : tie.After-kind) → let a = c .before .before .before .before .args in
-    seen.Record (c .kind .given .0 .0) (c .kind .given .0 .1 .0) ≡ recordIn (drop (a .cursor .at) (a .bytes .now))
-saw c = sym (c .kind .given .1) ∙ c .before .before .see-record-at .ensures
+    seen.Record (kind c) (count c) ≡ recordIn (drop (a .cursor .at) (a .bytes .now))
+saw c = let (values, is) = c .kind .given in sym is ∙ c .before .before .see-record-at .ensures
 
 -- .. and it lies within the bytes
 within : (c : tie.After-kind) → let a = c .before .before .before .before .args in
-    a .cursor .at + 4 + 2 * c .kind .given .0 .1 .0 ≤ length (a .bytes .now)
+    a .cursor .at + 4 + 2 * count c ≤ length (a .bytes .now)
 within c = let a = c .before .before .before .before .args in record-within (a .cursor .at) (a .bytes .now) _ _ (saw c)
 
 see-record-at-requires : tie.Need-see-record-at-requires
@@ -32,8 +38,8 @@ enum-told c = search needs
 returns : tie.Need-returns
 returns c =
     let a = c .before .before .before .before .args in
-    no-record (a .record-kind) (a .least) (a .most) (a .cursor .at) (a .bytes .now)
-    (c .before .before .see-record-at .ensures) (c .enum-told .given .1)
+    let (values, is) = c .enum-told .given in
+    no-record (a .record-kind) (a .least) (a .most) (a .cursor .at) (a .bytes .now) (c .before .before .see-record-at .ensures) is
 
 returns-2 : tie.Need-returns-2
 returns-2 c =

@@ -17,7 +17,8 @@ returns : tie.Need-returns
 returns c =
     let start = c .before .before .before in
     let a = start .args in
-    number-of-place (a .bytes .now) (a .place) (a .i) (c .number-at .result) (start .pre .0) (c .number-at .ensures)
+    let (below, within) = start .pre in
+    number-of-place (a .bytes .now) (a .place) (a .i) (c .number-at .result) below (c .number-at .ensures)
 
 pub nth-number-spec : {M : Type 1} → statement M
 nth-number-spec = tie.close (tie.spec mul-number-at add-number-at number-at-requires returns)

@@ -1,8 +1,7 @@
 -- `store::records::put_record` meets its contract.
 use borrow.Author.Needs.{needs}
 use denote.Ref.{now}
-use Rattle.guide.specs.Bytes.{bytesOf}
-use Rattle.store.specs.Store.{recordSize}
+use Rattle.rules.specs.Bytes.{bytesOf}
 use Rattle.store.proofs.TwoBytes.{record-placed}
 use Rattle.store.proofs.records.put_record.Statement.{statement}
 use Rattle.store.proofs.records.put_record.Tie as tie
@@ -17,16 +16,15 @@ cast-put-number : tie.Need-cast-put-number
 cast-put-number c = search needs
 
 put-number-requires : tie.Need-put-number-requires
-unfolding recordSize
 put-number-requires c κs = search needs
 
 put-number-requires-2 : tie.Need-put-number-requires-2
-unfolding recordSize bytesOf
+unfolding bytesOf
 put-number-requires-2 c κs = search needs
 
-put-words-requires : tie.Need-put-words-requires
-unfolding recordSize bytesOf
-put-words-requires c κs = search needs
+put-word-numbers-requires : tie.Need-put-word-numbers-requires
+unfolding bytesOf
+put-word-numbers-requires c κs = search needs
 
 same-length : tie.Need-same-length
 same-length c = search needs
@@ -37,8 +35,9 @@ returns c =
     let kind-put = words-put .before .before .before .before in
     let length-put = kind-put .before .before .before .before in
     let start = length-put .before .before .before in
-    record-placed (start .args .record-kind) (now (start .args .words)) (start .pre .1)
-    (length-put .put-number .ensures) (kind-put .put-number2 .ensures) (words-put .put-words .ensures)
+    let (few, room) = start .pre in
+    record-placed (start .args .record-kind) (now (start .args .words)) room
+    (length-put .put-number .ensures) (kind-put .put-number2 .ensures) (words-put .put-word-numbers .ensures)
 
 pub put-record-spec : {M : Type 1} → statement M
 put-record-spec =
@@ -49,6 +48,6 @@ put-record-spec =
     cast-put-number
     put-number-requires
     put-number-requires-2
-    put-words-requires
+    put-word-numbers-requires
     same-length
     returns)

@@ -12,16 +12,16 @@ use base.Logic.{SProp, ent, sep, emp, via, fst∗, id⊢}
 use base.Fml.{GName, ftrue, fat}
 use prog.Memory.{Memory}
 use prog.Routine.{Routine}
-use prog.Wp.{Heap, Calls, Loops, WpFn, Tables}
+use prog.Wp.{Heap, Calls, Loops, WpFn}
 use ghost.Atoms.{Atoms, sem}
 use contract.Monad.{Fun}
-use contract.Running.{givenOf, tables, tablesOf}
+use contract.Running.{givenOf}
 use types.Kit.{Given, ‵, raw, _⊛_, some, later, _$_, _∵_, !, qed, by, move, keep, drop, use1, use2, split, join, pick, rewrite}
 use types.Kit.{fjoin, suffices, frame, await, done}
 use types.Part.{agg, whole, sub, look-in}
 use types.Run.{look, init, forget, stop, fld, from, load, addr, of-opd, and-then, no-more, assigns, land, returns}
 use types.Run.{enter, alloc1, alloc0, params1, pass1, pass0, free1, free0}
-use sound.WpLaws.{FmC, fmOf, WpFn-mono}
+use sound.WpLaws.{FmC}
 use denote.RattleType.{owns}
 use denote.Laws.{Is, shows}
 use denote.Signed.{sint-vals, sint-tells, sint-makes, sint-lawful}
@@ -32,9 +32,8 @@ use denote.Struct.Laws as struct
 use denote.Triple.Statement.{Contract, Triple}
 use denote.Triple.Call.{calls-at}
 use denote.Triple.Entry.{Args, Vals, onEntry}
-use denote.Triple.Spec.{Meets, tripleOf}
-use denote.Triple.Table.{entered, cited}
-use denote.Triple.Walked.{Stays, stay-dropped, walkOf, goes-dropped, Walks, ends-at, walked, walk-meets}
+use denote.Triple.Spec.{tripleOf}
+use denote.Triple.Walked.{Stays, AllGo, stay-dropped, walkOf, goes-dropped, Walks, ends-at, walked}
 use denote.Triple.Clauses.{ensured}
 use denote.Exit.{yes}
 use Rattle.libc.specs.declared.types.stat.{stat}
@@ -45,6 +44,7 @@ use Rattle.libc.proofs.fstat.Symbol.{name as #fstat, routine as fstat-routine}
 use Rattle.libc.proofs.fstat.Met.{met as fstat-met}
 use Rattle.system.specs.declared.status.FileStatus.{FileStatus}
 use Rattle.system.proofs.Lending.{token, Sound, to, Mut, lends-mut, ends-mut}
+use Rattle.system.proofs.Walking.{walk-met}
 use Rattle.system.proofs.status.FileStatus as answered
 use Rattle.system.proofs.status.FileStatus.Laws as answered-laws
 use Rattle.system.proofs.status.status_in as status-in
@@ -78,13 +78,17 @@ pub record Fit (z : stat) : Type 0 where
 
 fit : (z : stat) → Sound the-type the-laws z → Fit z
 fit z is =
-    let from-links = struct.owed the-type the-laws z _ is .1 .1 in
-    let from-mode = from-links .1 in
+    let (dev, from-ino) = struct.owed the-type the-laws z _ is in
+    let (ino, from-links) = from-ino in
+    let (links, from-mode) = from-links in
+    let (mode, from-owner) = from-mode in
+    let (owner, from-group) = from-owner in
+    let (group, others) = from-group in
     record {
-      links = record { fits = from-links .0 .1 };
-      mode = record { fits = from-mode .0 .1 };
-      owner = record { fits = from-mode .1 .0 .1 };
-      group = record { fits = from-mode .1 .1 .0 .1 };
+      links = record { fits = links .1 };
+      mode = record { fits = mode .1 };
+      owner = record { fits = owner .1 };
+      group = record { fits = group .1 };
     }
 
 module _ {M : Type 1} (𝓤 : URA M) (H : Heap 𝓤) (A : Atoms 𝓤) (mem : Memory → SProp 𝓤) (run : Routine → Fun 𝓤) where
@@ -103,15 +107,9 @@ module _ {M : Type 1} (𝓤 : URA M) (H : Heap 𝓤) (A : Atoms 𝓤) (W : Given
   abbrev vals : Vals status-in.signature tt
   vals = (bits fd ∷ [], (sᵐ ∷ [], tt))
 
-  -- the triple in which the walk ends, and the values at which it is used
-  abbrev Walk : Contract 𝓤
-  Walk = walkOf 𝓤 H A status-in.ended stayed (status-in.clauses 𝓤 H A mem run)
-
-  abbrev bound : Walk .Ghost
-  bound = ((tt, tt, tt, args, vals), tt)
-
+  -- what the walk ends in
   abbrev Post : Val → SProp 𝓤
-  Post = Walk .post bound
+  Post = walkOf 𝓤 H A status-in.ended stayed (status-in.clauses 𝓤 H A mem run) .post ((tt, tt, tt, args, vals), tt)
 
   -- s lies at l and is lent for α under γ: what is passed to `fstat`, what it requires, and what is known after its answer r
   abbrev passed : ℕ → GName → ℕ → Fstat 𝓤 H A mem run .Ghost
@@ -133,7 +131,7 @@ module _ {M : Type 1} (𝓤 : URA M) (H : Heap 𝓤) (A : Atoms 𝓤) (W : Given
   exits : (r : ℤ) (z : stat) → Is answered.the-row (told r z) (toldᵐ r z ∷ []) → ent 𝓤 (emp 𝓤) (Post (toldᵐ r z))
   exits r z is =
       qed W [] ∵ suffices ! _
-      (ends-at 𝓤 H A status-in.ended stayed (status-in.clauses 𝓤 H A mem run) W bound (toldᵐ r z) (told r z)
+      (ends-at 𝓤 H A status-in.ended stayed (status-in.clauses 𝓤 H A mem run) W ((tt, tt, tt, args, vals), tt) (toldᵐ r z) (told r z)
       (tt, (tt, tt)) (tt, (tt, tt))) $
       owned ! answered.the-row (Is answered.the-row) (struct.makes answered.the-type answered-laws.the-plain 𝓤 H A) (told r z) _ is $
       nothing ! $ nothing ! $ fjoin ! $ nothing ! $ fjoin ! $ join ! $ nothing ! $ join ! $ frame ! $ done !
@@ -159,10 +157,11 @@ module _ {M : Type 1} (𝓤 : URA M) (H : Heap 𝓤) (A : Atoms 𝓤) (W : Given
         use1 W (later (some (λ (r : ℤ). ((‵ (token α) ⊛ ‵ ftrue) ⊛ ‵ (i32 .own r (u ∷ []))) ⊛ raw (Ensures α γ l₃ r)))) (id⊢ 𝓤 _) $
         await ! tt $ pick ! (λ r. split ! $ move ! (1 ∷ []) $ drop ! $ split ! $ move ! (1 ∷ []) $
         facts ! i32 (Is i32) (shows 𝓤 H A i32) r (u ∷ []) (λ is-r.
+        let (r-spelt, r-small) = is-r in
         land ! (from ! (stop !)) (init ! 12 refl (sint-lawful 𝓤 H A W w32 .typed r _ is-r .0)) $
-        rewrite ! 12 (λ (y : Val). ‵ (fat fullShare (tyInt w32) l₄ 0 y)) (ap only (is-r .0)) refl $
+        rewrite ! 12 (λ (y : Val). ‵ (fat fullShare (tyInt w32) l₄ 0 y)) (ap only r-spelt) refl $
         split ! $ move ! (0 ∷ 2 ∷ []) $ ends-mut the-type the-laws ! tt α γ l₃ (λ z is-z.
-        let r-fits = sint-lawful 𝓤 H A W w32 .typed r (bits r ∷ []) (refl, is-r .1) .0 .1 in
+        let r-fits = sint-lawful 𝓤 H A W w32 .typed r (bits r ∷ []) (refl, r-small) .0 .1 in
         let f = fit z is-z in
         -- [_3; true; _9; …; _8; …; _7; …; _6; …; _5; …; _4; …; … of _3; _2; …; _1; …; _0; …]
         assigns ! (of-opd ! (load ! (from ! (fld ! {d = 16} refl (stop !))) (look-in ! 0 (sub ! 2 {d = 16} refl (whole !)))))
@@ -183,8 +182,19 @@ module _ {M : Type 1} (𝓤 : URA M) (H : Heap 𝓤) (A : Atoms 𝓤) (W : Given
         move ! (19 ∷ 20 ∷ []) $ free1 ! $ move ! (17 ∷ 18 ∷ []) $ free1 ! $ move ! (15 ∷ 16 ∷ []) $ free1 ! $
         move ! (0 ∷ 14 ∷ []) $ free1 ! $ move ! (11 ∷ 12 ∷ []) $ free1 ! $ move ! (9 ∷ 10 ∷ []) $ free1 ! $ move ! (7 ∷ 8 ∷ []) $ free1 ! $
         move ! (5 ∷ 6 ∷ []) $ free1 ! $ move ! (3 ∷ 4 ∷ []) $ free1 ! $ move ! (1 ∷ 2 ∷ []) $ free1 ! $ free0 ! $ keep ! [] $
-        by ! (exits r z (struct.owes answered.the-type answered-laws.the-laws (told r z)
-        ((refl, is-r .1), ((refl, f .links .fits), ((refl, f .mode .fits), ((refl, f .owner .fits), ((refl, f .group .fits), tt))))))))))))))))))))))
+        by ! (exits r z (struct.owes answered.the-type answered-laws.the-laws (told r z) (
+          (refl, r-small),
+          (
+            (refl, f .links .fits),
+            (
+              (refl, f .mode .fits),
+              (
+                (refl, f .owner .fits),
+                ((refl, f .group .fits), tt),
+              ),
+            ),
+          ),
+        ))))))))))))))))))
 
 module _ {M : Type 1} (𝓤 : URA M) (H : Heap 𝓤) (A : Atoms 𝓤) (W : Given 𝓤 H A) (mem : Memory → SProp 𝓤) (run : Routine → Fun 𝓤) where
   walks : (Cs : Calls 𝓤 H) (Λ : Loops 𝓤 H) → FmC 𝓤 H (W .laws) Cs → Triple 𝓤 (Cs #fstat) (Fstat 𝓤 H A mem run)
@@ -192,22 +202,23 @@ module _ {M : Type 1} (𝓤 : URA M) (H : Heap 𝓤) (A : Atoms 𝓤) (W : Given
   walks Cs Λ fm known =
       walked 𝓤 H A status-in.ended stayed (status-in.clauses 𝓤 H A mem run) (WpFn 𝓤 H Cs Λ code.function)
       (λ κs. (sint-vals w32, (struct.vals the-type the-laws, tt))) (λ κs. (sint-tells w32, (struct.tells the-type the-laws, tt)))
-      (λ κs qs bounds a g are. via 𝓤 _ (fst∗ 𝓤 _ (emp 𝓤)) (walk 𝓤 H A W mem run (a .0) (a .1 .0) Cs Λ fm known (are .0) (are .1 .0)))
+      (λ κs qs bounds a g are.
+      let (fd, after-fd) = a in
+      let (s, none) = after-fd in
+      let (is-fd, are-after) = are in
+      let (is-s, end) = are-after in
+      via 𝓤 _ (fst∗ 𝓤 _ (emp 𝓤)) (walk 𝓤 H A W mem run fd s Cs Λ fm known is-fd is-s))
 
-  meets : (𝓣 : Tables 𝓤 H) → Triple 𝓤 (𝓣 .C #fstat) (Fstat 𝓤 H A mem run)
-      → Meets 𝓤 H A status-in.signature (WpFn 𝓤 H (𝓣 .C) (𝓣 .Λ) code.function) (status-in.spec 𝓤 H A mem run)
-  meets 𝓣 known =
-      walk-meets 𝓤 H A status-in.ended stayed W (
-        goes-dropped 𝓤 H A W 0 (plain (λ _. i32)) yes (λ κs x f. refl),
-        (goes-dropped 𝓤 H A W 0 (plain (λ _. the-row)) yes (λ κs x f. refl), tt),
-      )
-      (status-in.clauses 𝓤 H A mem run) (WpFn 𝓤 H (𝓣 .C) (𝓣 .Λ) code.function) (WpFn-mono 𝓤 H (W .laws) 𝓣 code.function)
-      (walks (𝓣 .C) (𝓣 .Λ) (fmOf 𝓤 H (W .laws) 𝓣) known)
+  goes : AllGo 𝓤 H A W 0 (status-in.ended .signature .params) (status-in.ended .kept) stayed
+  goes = (
+    goes-dropped 𝓤 H A W 0 (plain (λ _. i32)) yes (λ κs x f. refl),
+    (goes-dropped 𝓤 H A W 0 (plain (λ _. the-row)) yes (λ κs x f. refl), tt),
+  )
 
 pub status-in-spec : {M : Type 1} → stated.statement M
-unfolding code.routine tablesOf
+unfolding code.routine
 status-in-spec 𝓤 H 𝓜 𝓖 𝓡 =
-    entered 𝓤 H (tripleOf 𝓤 H (𝓖 .A) status-in.signature (status-in.spec 𝓤 H (𝓖 .A) (𝓜 .mem) (𝓡 .run)))
-    (tables 𝓤 H 𝓜 𝓡 code.env .C) (tables 𝓤 H 𝓜 𝓡 code.env .Λ) #status-in code.function (code.unfolded 𝓤 H 𝓜 𝓡)
-    (meets 𝓤 H (𝓖 .A) (givenOf 𝓤 H 𝓜 𝓖) (𝓜 .mem) (𝓡 .run) (tablesOf 𝓤 H 𝓜 (tables 𝓤 H 𝓜 𝓡 code.env))
-    (cited 𝓤 H (Fstat 𝓤 H (𝓖 .A) (𝓜 .mem) (𝓡 .run)) 𝓜 𝓡 code.env #fstat fstat-routine code.calls-libc·fstat (fstat-met 𝓤 H 𝓜 𝓖 𝓡)))
+    let W = givenOf 𝓤 H 𝓜 𝓖 in
+    walk-met 𝓤 H 𝓜 𝓖 𝓡 status-in.ended stayed (status-in.clauses 𝓤 H (𝓖 .A) (𝓜 .mem) (𝓡 .run)) (Fstat 𝓤 H (𝓖 .A) (𝓜 .mem) (𝓡 .run))
+    (goes 𝓤 H (𝓖 .A) W (𝓜 .mem) (𝓡 .run)) code.env #status-in code.function (code.unfolded 𝓤 H 𝓜 𝓡)
+    #fstat fstat-routine code.calls-libc·fstat (fstat-met 𝓤 H 𝓜 𝓖 𝓡) (walks 𝓤 H (𝓖 .A) W (𝓜 .mem) (𝓡 .run))

@@ -12,16 +12,16 @@ use base.Logic.{SProp, ent, emp, via, fst∗, id⊢}
 use base.Fml.{GName, ftrue}
 use prog.Memory.{Memory}
 use prog.Routine.{Routine}
-use prog.Wp.{Heap, Calls, Loops, WpFn, Tables}
+use prog.Wp.{Heap, Calls, Loops, WpFn}
 use ghost.Atoms.{Atoms}
 use contract.Lifetimes.{Lfts}
 use contract.Monad.{Fun}
-use contract.Running.{givenOf, tables, tablesOf}
+use contract.Running.{givenOf}
 use types.Kit.{Given, Item, ‵, raw, _⊛_, ⋆, some, later, _$_, _∵_, !, qed, by, move, keep, drop, use1, split, join, group, pick}
 use types.Kit.{fjoin, feqI, suffices, frame, await, done}
 use types.Run.{look, init, forget, stop, from, load, unit-lit, addr, of-opd, and-then, no-more, assigns, land, returns}
 use types.Run.{enter, alloc1, alloc0, params1, pass1, pass0, free1, free0}
-use sound.WpLaws.{FmC, fmOf, WpFn-mono}
+use sound.WpLaws.{FmC}
 use denote.RattleType.{owns}
 use denote.Laws.{Is, shows}
 use denote.Signed.{sint-lawful}
@@ -32,9 +32,8 @@ use denote.Struct.Laws as struct
 use denote.Triple.Statement.{Contract, Triple}
 use denote.Triple.Call.{calls-at}
 use denote.Triple.Entry.{Args, Vals, onEntry}
-use denote.Triple.Spec.{Meets, tripleOf}
-use denote.Triple.Table.{entered, cited}
-use denote.Triple.Walked.{Stays, stay-dropped, walkOf, goes-dropped, Walks, ends-at, walked, walk-meets}
+use denote.Triple.Spec.{tripleOf}
+use denote.Triple.Walked.{Stays, AllGo, stay-dropped, walkOf, goes-dropped, Walks, ends-at, walked}
 use denote.Triple.Clauses.{ensured}
 use denote.Exit.{yes}
 use Rattle.libc.specs.declared.types.timespec.{timespec}
@@ -44,6 +43,7 @@ use Rattle.libc.proofs.nanosleep as nanosleep
 use Rattle.libc.proofs.nanosleep.Symbol.{name as #nanosleep, routine as nanosleep-routine}
 use Rattle.libc.proofs.nanosleep.Met.{met as nanosleep-met}
 use Rattle.system.proofs.Lending.{token, Sound, to, Mut, Shr, lends-mut, ends-mut, lends-shr, ends-shr}
+use Rattle.system.proofs.Walking.{walk-met}
 use Rattle.system.proofs.waiting.wait as wait
 use Rattle.system.proofs.waiting.wait.Key.{name as #wait}
 use Rattle.system.proofs.waiting.wait.Statement as stated
@@ -72,20 +72,15 @@ module _ {M : Type 1} (𝓤 : URA M) (H : Heap 𝓤) (A : Atoms 𝓤) (W : Given
   abbrev vals : Vals wait.signature tt
   vals = (sᵐ ∷ [], (tᵐ ∷ [], tt))
 
-  -- the triple in which the walk ends, and the values at which it is used
-  abbrev Walk : Contract 𝓤
-  Walk = walkOf 𝓤 H A wait.ended stayed (wait.clauses 𝓤 H A mem run)
-
-  abbrev bound : Walk .Ghost
-  bound = ((tt, tt, tt, args, vals), tt)
-
+  -- what the walk ends in
   abbrev Post : Val → SProp 𝓤
-  Post = Walk .post bound
+  Post = walkOf 𝓤 H A wait.ended stayed (wait.clauses 𝓤 H A mem run) .post ((tt, tt, tt, args, vals), tt)
 
   exits : ent 𝓤 (emp 𝓤) (Post vunit)
   exits =
       qed W [] ∵ suffices ! _
-      (ends-at 𝓤 H A wait.ended stayed (wait.clauses 𝓤 H A mem run) W bound vunit tt (tt, (tt, tt)) (tt, (tt, tt))) $
+      (ends-at 𝓤 H A wait.ended stayed (wait.clauses 𝓤 H A mem run) W ((tt, tt, tt, args, vals), tt) vunit tt
+      (tt, (tt, tt)) (tt, (tt, tt))) $
       feqI ! (List Val) (vunit ∷ []) (vunit ∷ []) refl $
       nothing ! $ nothing ! $ fjoin ! $ nothing ! $ fjoin ! $ join ! $ nothing ! $ join ! $ frame ! $ done !
 
@@ -161,23 +156,23 @@ module _ {M : Type 1} (𝓤 : URA M) (H : Heap 𝓤) (A : Atoms 𝓤) (W : Given
       walked 𝓤 H A wait.ended stayed (wait.clauses 𝓤 H A mem run) (WpFn 𝓤 H Cs Λ code.function)
       (λ κs. (struct.vals the-type the-laws, (struct.vals the-type the-laws, tt)))
       (λ κs. (struct.tells the-type the-laws, (struct.tells the-type the-laws, tt)))
-      (λ κs qs bounds a g are. via 𝓤 _ (fst∗ 𝓤 _ (emp 𝓤)) (walk 𝓤 H A W mem run (a .0) (a .1 .0) Cs Λ fm known (are .0) (are .1 .0)))
+      (λ κs qs bounds a g are.
+      let (s, after-s) = a in
+      let (t, none) = after-s in
+      let (is-s, are-after) = are in
+      let (is-t, end) = are-after in
+      via 𝓤 _ (fst∗ 𝓤 _ (emp 𝓤)) (walk 𝓤 H A W mem run s t Cs Λ fm known is-s is-t))
 
-  meets : (𝓣 : Tables 𝓤 H) → Triple 𝓤 (𝓣 .C #nanosleep) (Nanosleep 𝓤 H A mem run)
-      → Meets 𝓤 H A wait.signature (WpFn 𝓤 H (𝓣 .C) (𝓣 .Λ) code.function) (wait.spec 𝓤 H A mem run)
-  meets 𝓣 known =
-      walk-meets 𝓤 H A wait.ended stayed W (
-        goes-dropped 𝓤 H A W 0 (plain (λ _. the-row)) yes (λ κs x f. refl),
-        (goes-dropped 𝓤 H A W 0 (plain (λ _. the-row)) yes (λ κs x f. refl), tt),
-      )
-      (wait.clauses 𝓤 H A mem run) (WpFn 𝓤 H (𝓣 .C) (𝓣 .Λ) code.function) (WpFn-mono 𝓤 H (W .laws) 𝓣 code.function)
-      (walks (𝓣 .C) (𝓣 .Λ) (fmOf 𝓤 H (W .laws) 𝓣) known)
+  goes : AllGo 𝓤 H A W 0 (wait.ended .signature .params) (wait.ended .kept) stayed
+  goes = (
+    goes-dropped 𝓤 H A W 0 (plain (λ _. the-row)) yes (λ κs x f. refl),
+    (goes-dropped 𝓤 H A W 0 (plain (λ _. the-row)) yes (λ κs x f. refl), tt),
+  )
 
 pub wait-spec : {M : Type 1} → stated.statement M
-unfolding code.routine tablesOf
+unfolding code.routine
 wait-spec 𝓤 H 𝓜 𝓖 𝓡 =
-    entered 𝓤 H (tripleOf 𝓤 H (𝓖 .A) wait.signature (wait.spec 𝓤 H (𝓖 .A) (𝓜 .mem) (𝓡 .run)))
-    (tables 𝓤 H 𝓜 𝓡 code.env .C) (tables 𝓤 H 𝓜 𝓡 code.env .Λ) #wait code.function (code.unfolded 𝓤 H 𝓜 𝓡)
-    (meets 𝓤 H (𝓖 .A) (givenOf 𝓤 H 𝓜 𝓖) (𝓜 .mem) (𝓡 .run) (tablesOf 𝓤 H 𝓜 (tables 𝓤 H 𝓜 𝓡 code.env))
-    (cited 𝓤 H (Nanosleep 𝓤 H (𝓖 .A) (𝓜 .mem) (𝓡 .run)) 𝓜 𝓡 code.env #nanosleep nanosleep-routine code.calls-libc·nanosleep
-    (nanosleep-met 𝓤 H 𝓜 𝓖 𝓡)))
+    let W = givenOf 𝓤 H 𝓜 𝓖 in
+    walk-met 𝓤 H 𝓜 𝓖 𝓡 wait.ended stayed (wait.clauses 𝓤 H (𝓖 .A) (𝓜 .mem) (𝓡 .run)) (Nanosleep 𝓤 H (𝓖 .A) (𝓜 .mem) (𝓡 .run))
+    (goes 𝓤 H (𝓖 .A) W (𝓜 .mem) (𝓡 .run)) code.env #wait code.function (code.unfolded 𝓤 H 𝓜 𝓡)
+    #nanosleep nanosleep-routine code.calls-libc·nanosleep (nanosleep-met 𝓤 H 𝓜 𝓖 𝓡) (walks 𝓤 H (𝓖 .A) W (𝓜 .mem) (𝓡 .run))
