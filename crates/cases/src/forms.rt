@@ -79,7 +79,7 @@ fn each_byte(bytes: &[u8]) {
     let mut i: usize = 0;
     while i < bytes.len() {
         say::text(b" ");
-        io::print_hex(libc::STDOUT_FILENO, bytes[i] as u64, 2);
+        io::print_hex(say::OUTPUT, bytes[i] as u64, 2);
         i += 1;
     }
 }

@@ -2,6 +2,8 @@
 // written and read back, words against a chart's lines, the sums that rounds of rejection are given, and whole lists of calls. Standard
 // input has a line for each case, with its label. The label is said, and the answer after it. `tests/model` makes both files: `stdin`, and
 // `stdout`, with which the output is compared. All functions but `fill` only write output, and no contract can state what is written.
+#![tactic(auto)]
+
 mod against;
 mod forms;
 mod handed_in;

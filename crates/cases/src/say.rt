@@ -1,8 +1,13 @@
 // Parts of a line, to standard output.
 use chart::Chart;
 
+// The descriptors of standard input and standard output.
+const INPUT: i32 = 0;
+
+pub const OUTPUT: i32 = 1;
+
 pub fn text(bytes: &[u8]) {
-    io::write_all(libc::STDOUT_FILENO, bytes);
+    io::write_all(OUTPUT, bytes);
 }
 
 pub fn end_of_line() {
@@ -26,7 +31,7 @@ fn echo_line() {
     let mut byte = [0u8; 1];
     let mut left: usize = 100;
     while 0 < left {
-        if io::read_full(libc::STDIN_FILENO, &mut byte) == 0 {
+        if io::read_full(INPUT, &mut byte) == 0 {
             return;
         }
         if byte[0] == b'\n' {

@@ -8,7 +8,6 @@ use native.Mathlib.Omega.{arith}
 use Rattle.rules.specs.Outcome.{Outcome, given}
 use Rattle.rules.specs.Outcome as outcome
 use Rattle.rules.specs.Sizes.{base_wanted}
-use Rattle.rules.specs.Word as word
 use Rattle.rules.specs.Standing.{number_standing}
 use Rattle.rules.specs.Tail.{Tail, of_words, no_tail, IsTail, shortest_tail}
 use Rattle.rules.specs.State.{State, limits_for, add_word, replace_last, set_status}

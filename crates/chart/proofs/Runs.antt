@@ -1,5 +1,5 @@
 -- Lists of calls on the chart that stands for a sound state: chart and answers are the machine's, the chart stays sound, and 14 never
--- occurs. The same holds for every list from a chart that building gives (`built-runs`).
+-- occurs. The same holds for every list from a chart that building gives (`built_runs`).
 use mathlib.Core.Path.{◌≡◌, refl, ap, ◌∙◌}
 use mathlib.Core.Bool.{true}
 use mathlib.Core.List.{List, [], ◌∷◌, Memᴰ as Among}

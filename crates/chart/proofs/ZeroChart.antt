@@ -1,5 +1,5 @@
--- The chart of zeros, which a refused build or read gives. It stands for the state of kind 0 with no words (`zeros-state`), so all its
--- numbers and places are 0. It is not sound (`zeros-not-sound`).
+-- The chart of zeros, which a refused build or read gives. It stands for the state of kind 0 with no words (`zeros_state`), so all its
+-- numbers and places are 0. It is not sound (`zeros_not_sound`).
 use mathlib.Core.Path.{◌≡◌, refl}
 use mathlib.Core.Bool.{false}
 use mathlib.Core.List.{[]}

@@ -16,7 +16,7 @@ use Rattle.chart.specs.Chart.{state_of, chart_of}
 use Rattle.chart.specs.Soundness.{sound_chart}
 
 -- 14 "a chart value handed in: not sound" comes before all refusals of the machine, and the call gives back the same chart. A sound chart
--- whose arrays have the lengths of its type is the chart that stands for its state (`chart-of-state` in `proofs/State`). So a call that the
+-- whose arrays have the lengths of its type is the chart that stands for its state (`chart_of-state` in `proofs/State`). So a call that the
 -- machine refuses gives back the same chart too
 unfoldable pub next_chart : Chart → Call → Chart
 next_chart c call = choose (sound_chart c) (chart_of (step (state_of c) call).state) c

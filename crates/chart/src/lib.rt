@@ -3,6 +3,8 @@
 // Every call first refuses, with 14, a chart that is not sound, whatever its lengths are. Then it refuses, in this order: post 8 (status
 // not 0), 9 (366 words in the series), 4 (a reading of another kind), 5, 6, 7; reanalyse 10 (status not 1), 4, 5, 6, 7; correct 11 (status
 // not 2); renew 8, 12 (base and series below 15), 16 (no tail will do). A refused call gives back the very chart that it got.
+#![tactic(auto)]
+
 mod building;
 pub mod rejection;
 pub mod soundness;
@@ -28,7 +30,7 @@ use rejection::RejectionAnswer;
 use tail::reject_tail;
 use words::{Formed, word_for};
 
-#[derive(Drop)]
+#[derive(Clone, Copy)]
 pub struct Chart {
     pub kind: u16,
     pub base: [i16; Chart::BASE_MOST],
@@ -39,65 +41,65 @@ pub struct Chart {
     pub open_verdict: u16,
 }
 
-#[derive(Drop)]
+#[derive(Clone, Copy)]
 pub enum BuildAnswer {
     // Rounds of rejection, and the number of words that they removed.
     Done { rounds: usize, removed: usize },
     Refused(u16),
 }
 
-#[derive(Drop)]
+#[derive(Clone, Copy)]
 pub struct Built {
     pub chart: Chart,
     pub answer: BuildAnswer,
 }
 
-#[derive(Drop)]
+#[derive(Clone, Copy)]
 pub enum PostAnswer {
     Judged { word: i16, verdict: u16 },
     Refused(u16),
 }
 
-#[derive(Drop)]
+#[derive(Clone, Copy)]
 pub struct Posted {
     pub chart: Chart,
     pub answer: PostAnswer,
 }
 
 // A reanalysis answers its word and whether it passed.
-#[derive(Drop)]
+#[derive(Clone, Copy)]
 pub enum ReanalysisAnswer {
     Passed(i16),
     Failed(i16),
     Refused(u16),
 }
 
-#[derive(Drop)]
+#[derive(Clone, Copy)]
 pub struct Reanalysed {
     pub chart: Chart,
     pub answer: ReanalysisAnswer,
 }
 
-#[derive(Drop)]
+#[derive(Clone, Copy)]
 pub enum CorrectionAnswer {
     Done,
     Refused(u16),
 }
 
-#[derive(Drop)]
+#[derive(Clone, Copy)]
 pub struct Corrected {
     pub chart: Chart,
     pub answer: CorrectionAnswer,
 }
 
-#[derive(Drop)]
+#[derive(Clone, Copy)]
 pub enum RenewalAnswer {
     // Rounds of rejection, and the number of words that they removed.
     Done { rounds: usize, removed: usize },
     Refused(u16),
 }
 
-#[derive(Drop)]
+#[derive(Clone, Copy)]
 pub struct Renewed {
     pub chart: Chart,
     pub answer: RenewalAnswer,

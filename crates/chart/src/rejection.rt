@@ -16,14 +16,14 @@ use crate::Chart;
 use limits::{Limits, Sums, beyond_control, sums_of, without_word};
 
 // The first n of 32 places hold words.
-#[derive(Drop)]
+#[derive(Clone, Copy)]
 pub struct Standing {
     pub words: [i16; Chart::BASE_MOST],
     pub n: usize,
 }
 
 // The words left, the rounds, and the number of words that the rounds removed.
-#[derive(Drop)]
+#[derive(Clone, Copy)]
 pub struct RejectionAnswer {
     pub left: Standing,
     pub rounds: usize,
@@ -31,7 +31,7 @@ pub struct RejectionAnswer {
 }
 
 // What a round hands on to the next one: the words that it leaves, and the sums that it was given less the words that it removes.
-#[derive(Drop)]
+#[derive(Clone, Copy)]
 pub struct HandedOn {
     pub left: Standing,
     pub sums: Sums,

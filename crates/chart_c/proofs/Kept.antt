@@ -1,5 +1,5 @@
--- Laws of the chart that a call leaves in a lent buffer, and of the call itself: what is written (`written`, `not_written`), what a refused
--- call leaves (`keeps-declined`), one call on a sound chart (`called-by`), and a call on the chart in a buffer (`not-called`, `called_is`).
+-- Laws of the chart that a call leaves in a lent buffer, and of the call itself: what is written (`written`, `not_written_lem`), what a refused
+-- call leaves (`keeps_declined`), one call on a sound chart (`called_by`), and a call on the chart in a buffer (`not_called`, `called_is`).
 use mathlib.Core.Path.{◌≡◌, refl, sym, ap, ◌∙◌}
 use mathlib.Core.Bool.{Bool, true, false}
 use mathlib.Core.List.{List}

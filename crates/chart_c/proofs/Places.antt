@@ -1,4 +1,4 @@
--- Laws of the parts of an answer in lent places (`filled`, `not-filled`), and of the chart and the places together (`leaves`).
+-- Laws of the parts of an answer in lent places (`filled`, `not_filled`), and of the chart and the places together (`leaves`).
 use mathlib.Core.Path.{◌≡◌, refl}
 use mathlib.Core.List.{List}
 use Prim.Native.Nat.{ℕ}

@@ -1,5 +1,5 @@
--- Only a post makes a chart's form longer (`form-not-longer`). So after a reanalysis, a correction or a renewal there is room for the form
--- in the buffer that held the form before (`room-kept`), and 15 does not occur.
+-- Only a post makes a chart's form longer (`form_not_longer`). So after a reanalysis, a correction or a renewal there is room for the form
+-- in the buffer that held the form before (`room_kept`), and 15 does not occur.
 use mathlib.Core.Path.{◌≡◌, refl, sym, ap, ◌∙◌}
 use mathlib.Core.Bool.{Bool, true, false}
 use mathlib.Core.List.{List, ◌∷◌, [], ◌++◌}
@@ -18,7 +18,6 @@ use Rattle.rules.specs.State.{State, fresh, set_status, replace_last}
 use Rattle.rules.specs.Soundness.{sound}
 use Rattle.rules.specs.StoredForm.{stored_form, form_fits}
 use Rattle.rules.specs.ReadForm.{reading}
-use Rattle.rules.specs.Lists as start
 use Rattle.rules.specs.Reanalysis.{passes}
 use Rattle.rules.specs.State.{limits_for}
 use Rattle.rules.specs.Machine.{Call, Answer, judged, reanalysed, corrected, renewed, Next, step, posting, reanalysing, after_reanalysis}

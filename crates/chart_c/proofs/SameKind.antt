@@ -1,21 +1,20 @@
 -- Laws of the kinds that callers pass. A number of more than sixteen bits is no kind, and 0, which replaces it, is no kind either. So a
 -- word, a build and a call come to the same with both.
-use mathlib.Core.Path.{◌≡◌, refl, sym, ap, ◌∙◌}
+use mathlib.Core.Path.{◌≡◌, sym, ap, ◌∙◌}
 use mathlib.Core.Bool.{true, false}
 use mathlib.Core.List.{List}
 use Prim.Native.Nat.{ℕ, ◌≤◌, ◌<◌}
 use native.Mathlib.Omega.{arith}
-use lib.Dec.{leb, eqb}
+use lib.Dec.{leb}
 use lib.IntN.{ℤ}
 use borrow.Author.Tests.{le-leb, lt-leb, leb-true, leb-false, ne_eqb}
 use Rattle.rules.specs.Outcome.{Outcome, refused}
 use Rattle.rules.specs.Kind.{is_kind}
 use Rattle.rules.specs.Word.{word_alone}
-use Rattle.rules.specs.Word as word
 use Rattle.rules.specs.Building.{build_refusal, building}
 use Rattle.rules.specs.State.{State}
 use Rattle.rules.specs.Soundness.{sound}
-use Rattle.rules.specs.Machine.{Call, post, reanalysis, word_for, if_formed, posting, reanalysing, step, unless_refused, refusal_for, Next}
+use Rattle.rules.specs.Machine.{post, reanalysis, word_for, if_formed, posting, reanalysing, step, unless_refused, refusal_for}
 use Rattle.rules.proofs.Booleans.{by_test, both}
 use Rattle.rules.proofs.Soundness.{sound_facts}
 use Rattle.chart_c.specs.Calls.{kind_passed}

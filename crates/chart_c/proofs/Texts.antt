@@ -1,6 +1,6 @@
--- Laws of texts for C: bytes that were put at the front of a buffer with room for them (`put-at-front`), and a text as a string in the lent
--- buffer (`text-short`, `text-put`, `string-of`).
-use mathlib.Core.Path.{◌≡◌, sym, ◌∙◌}
+-- Laws of texts for C: bytes that were put at the front of a buffer with room for them (`put_at_front`), and a text as a string in the lent
+-- buffer (`text_short`, `text_put`, `string_of_lem`).
+use mathlib.Core.Path.{◌≡◌, sym}
 use mathlib.Core.List.{List, [], ◌∷◌}
 use Prim.Native.Nat.{ℕ, ◌≤◌, ◌<◌}
 use native.Mathlib.Omega.{arith}

@@ -8,7 +8,7 @@ ghost use Rattle.chart_c.specs.Answers.{word_parts, count_parts, answer_outcome,
 use chart::{CorrectionAnswer, PostAnswer, ReanalysisAnswer, RenewalAnswer};
 
 // A part that the call does not answer is 0.
-#[derive(Drop)]
+#[derive(Clone, Copy)]
 pub struct Parts {
     pub word: i16,
     pub verdict: u16,
@@ -18,7 +18,7 @@ pub struct Parts {
     pub removed: usize,
 }
 
-#[derive(Drop)]
+#[derive(Clone, Copy)]
 pub enum CallAnswer {
     Done(Parts),
     Refused(u16),

@@ -15,7 +15,7 @@ use chart::{BuildAnswer, Chart};
 use store::{WriteAnswer, write_sound};
 
 // A kind is a number of 32 bits here: the call is made with the kind of sixteen bits.
-#[derive(Drop)]
+#[derive(Clone, Copy)]
 pub enum Call {
     Post { kind: u32, a: i64, b: i64, c: i64 },
     Reanalysis { kind: u32, a: i64, b: i64, c: i64 },
@@ -24,7 +24,7 @@ pub enum Call {
 }
 
 // The chart that a call or a build gave, and its answer.
-#[derive(Drop)]
+#[derive(Clone, Copy)]
 pub struct Called {
     pub chart: Chart,
     pub answer: CallAnswer,

@@ -4,6 +4,8 @@
 // Each function answers 0 or the number of a refusal. A refusal leaves everything that was lent as it was. A function reads the chart from
 // its bytes (13, 14), makes the call (its own numbers, in the paper's order), and writes the chart after it (15). A slice is passed as a
 // pointer and a length, a `&mut` number as a pointer.
+#![tactic(auto)]
+
 mod answers;
 mod calls;
 mod forms;

@@ -1,6 +1,6 @@
--- The fields of a line from a byte on: the first field and those after it (`none_found`, `one_found`, `first-field-is`, `fields-behind`),
--- whether the first field begins a comment (`comment-found`), the number in it (`number-found`), how much of the line remains after it
--- (`remaining`), and four numbers one after the other (`readings-found`).
+-- The fields of a line from a byte on: the first field and those after it (`none_found`, `one_found`, `first_field_is`, `fields_behind`),
+-- whether the first field begins a comment (`comment_found`), the number in it (`number_found`), how much of the line remains after it
+-- (`remaining`), and four numbers one after the other (`readings_found`).
 use mathlib.Core.Path.{◌≡◌, sym, ap, ◌∙◌}
 use mathlib.Core.Bool.{Bool, true, not}
 use mathlib.Core.List.{List, [], ◌∷◌}

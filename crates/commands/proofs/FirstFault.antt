@@ -1,5 +1,5 @@
--- The first fault of a line's fields: of a number that the command takes (`fault-found`), of the end (`end-found`), of four numbers
--- (`readings-faults`), of hex digits (`read-faults`), and of words, one after the other (`FaultsFrom`).
+-- The first fault of a line's fields: of a number that the command takes (`fault_found`), of the end (`end_found`), of four numbers
+-- (`readings_faults`), of hex digits (`read_faults`), and of words, one after the other (`FaultsFrom`).
 use mathlib.Core.Path.{◌≡◌, refl, sym, ap, ◌∙◌}
 use mathlib.Core.Bool.{true, false}
 use mathlib.Core.List.{List, [], ◌∷◌}

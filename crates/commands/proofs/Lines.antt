@@ -1,5 +1,5 @@
--- Laws of what a line is: too long (`too_long`), passed over (`no_field`, `a-comment`), with a fault (`a-fault`), without a fault
--- (`no-fault`). A law of the line feed after a reply (`line-fed`).
+-- Laws of what a line is: too long (`too_long`), passed over (`no_field`, `a_comment`), with a fault (`a_fault`), without a fault
+-- (`no_fault`). A law of the line feed after a reply (`line_fed`).
 use mathlib.Core.Path.{◌≡◌, refl, ap, ◌∙◌}
 use mathlib.Core.Bool.{true, false}
 use mathlib.Core.List.{List, [], ◌∷◌, ◌++◌}

@@ -80,7 +80,7 @@ lower b = printed (b % 16) (omega arith)
 hex_is_hex : (bytes : List ℕ) → AllBelow 256 bytes → are_hex (hex_of bytes) ≡ true
 unfolding are_hex all_bytes hex_of
 hex_is_hex [] h = refl
-hex_is_hex (b ∷ bytes) h = rw ((higher b h.0).is-hex, (lower b).is-hex) (hex_is_hex bytes h.1)
+hex_is_hex (b ∷ bytes) h = rw ((higher b h.0).is_hex_lem, (lower b).is_hex_lem) (hex_is_hex bytes h.1)
 
 hex_back : (bytes : List ℕ) → AllBelow 256 bytes → bytes_of_hex (hex_of bytes) ≡ bytes
 unfolding bytes_of_hex hex_of
@@ -97,11 +97,11 @@ same_field b next rest t u = rw (t, u)
 
 hex_field : (b : ℕ) (bytes : List ℕ) → b < 256 → AllBelow 256 bytes → fields_of (hex_of (b ∷ bytes)) ≡ hex_of (b ∷ bytes) ∷ []
 unfolding hex_of fields_of
-hex_field b [] h k = rw ((higher b h).no-blank, (lower b).no-blank)
+hex_field b [] h k = rw ((higher b h).no_blank, (lower b).no_blank)
 hex_field b (c ∷ bytes) h k =
     let rest = hex_digit (c % 16) ∷ hex_of bytes in
-    let next = same_field (hex_digit (b % 16)) (hex_digit (c / 16)) rest (lower b).no-blank (higher c k.0).no-blank in
-    same_field (hex_digit (b / 16)) (hex_digit (b % 16)) (hex_digit (c / 16) ∷ rest) (higher b h).no-blank (lower b).no-blank
+    let next = same_field (hex_digit (b % 16)) (hex_digit (c / 16)) rest (lower b).no_blank (higher c k.0).no_blank in
+    same_field (hex_digit (b / 16)) (hex_digit (b % 16)) (hex_digit (c / 16) ∷ rest) (higher b h).no_blank (lower b).no_blank
     ∙ ap (in_front (hex_digit (b / 16))) (next ∙ ap (in_front (hex_digit (b % 16))) (hex_field c bytes k.0 k.1))
 
 -- ---- the line

@@ -1,5 +1,5 @@
--- Laws of what a command replies: a call on the chart (`replies-call`), an inquiry (`replies-inquiry`), building (`replies-build`) and
--- reading (`replies-read`).
+-- Laws of what a command replies: a call on the chart (`replies_call`), an inquiry (`replies_inquiry`), building (`replies_build`) and
+-- reading (`replies_read`).
 use mathlib.Core.Path.{◌≡◌, refl, sym, ap, ◌∙◌, subst}
 use mathlib.Core.List.{List}
 use Prim.Native.Nat.{ℕ}

@@ -1,13 +1,13 @@
--- 4,096 bytes are enough for every answer (`answer-room`), so a buffer of that many bytes holds the whole answer (`in-full`). The numbers
+-- 4,096 bytes are enough for every answer (`answer_room`), so a buffer of that many bytes holds the whole answer (`in_full`). The numbers
 -- in an answer have at most five digits, except those of `lines`, which are read off doubles. For words, counts and verdicts this follows
 -- from the paper's definitions. For what `show` shows it follows from the chart's type, whether the chart is sound or not.
-use mathlib.Core.Path.{◌≡◌, refl, sym, ap, ◌∙◌}
+use mathlib.Core.Path.{◌≡◌, refl}
 use mathlib.Core.Bool.{true}
-use mathlib.Core.List.{List, [], ◌∷◌, ◌++◌, map}
+use mathlib.Core.List.{List, [], ◌∷◌, ◌++◌}
 use Prim.Native.Nat.{ℕ, zero, suc, ◌<◌, ◌≤◌}
 use native.Mathlib.Omega.{arith}
 use lib.Dec.{lit<}
-use lib.ListN.{length, take, drop, length-take, length-append}
+use lib.ListN.{length, take, length-take, length-append}
 use lib.Seq.{get_or-take}
 use lib.IntN.{ℤ, pos, negsuc, nat_abs}
 use mir.Syntax.{w16}
@@ -114,7 +114,7 @@ fits_short (pos n) h = omega (arith, h.sfits)
 fits_short (negsuc n) h = omega (arith, h.sfits)
 
 -- the words of an array
-pub words_short : (ws : List ℤ) (held : List Val) → shadow (each ℤ (SInt w16).own_val (map (λ (w : ℤ). w) ws) held) → ShortWords ws
+pub words_short : (ws : List ℤ) (held : List Val) → shadow (each ℤ (SInt w16).own_val ws held) → ShortWords ws
 words_short [] held p i less = absurd (omega arith)
 words_short (w ∷ ws) [] p i less = absurd p
 words_short (w ∷ ws) (v ∷ held) p zero less = fits_short w (sfits_of p.0.1)

@@ -1,6 +1,6 @@
--- Laws of the reply to `write`: the form, if it was written (`form-replied`), or the refusal 14 (`refusal-replied`). No other refusal is
+-- Laws of the reply to `write`: the form, if it was written (`form_replied`), or the refusal 14 (`refusal_replied`). No other refusal is
 -- possible, because the buffer has room for every form.
-use mathlib.Core.Path.{◌≡◌, refl, sym, ap, subst}
+use mathlib.Core.Path.{◌≡◌, refl, sym, subst}
 use mathlib.Core.Bool.{Bool, true, false}
 use mathlib.Core.List.{List}
 use Prim.Native.Nat.{ℕ, ◌≤◌}
@@ -11,7 +11,6 @@ use Rattle.rules.specs.Outcome.{given, refused}
 use Rattle.rules.specs.Choice.{require}
 use Rattle.rules.specs.Sizes.{base_most, series_most}
 use Rattle.rules.specs.StoredForm.{stored_form, form_fits, writing}
-use Rattle.rules.specs.StoredForm as form
 use Rattle.rules.proofs.Booleans.{zero_not_one}
 use Rattle.rules.proofs.Outcome.{given_not_refused}
 use Rattle.chart.specs.declared.Chart.{Chart}

@@ -74,6 +74,6 @@ answer_to_line chart command.passed_over = []
 answer_to_line chart (command.faulty n) = fault_text n ++ (10 ∷ [])
 answer_to_line chart (command.asked c) = reply_to chart c ++ (10 ∷ [])
 
--- this many bytes are enough for every answer (`answer-room` in `proofs/Room`)
+-- this many bytes are enough for every answer (`answer_room` in `proofs/Room`)
 abbrev pub answer_most : ℕ
 answer_most = 4096

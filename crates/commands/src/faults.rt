@@ -11,7 +11,7 @@ use parsing::numbers::Number;
 use replies::Fault;
 
 // What is found in the fields: no fault, or the first one.
-#[derive(Drop)]
+#[derive(Clone, Copy)]
 pub enum Finding {
     NoFault,
     Is(Fault),

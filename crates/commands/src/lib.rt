@@ -2,6 +2,8 @@
 //
 // A line is passed over if it has no field or its first field begins with '#'. If a line has a fault, the answer says what is wrong, and no
 // call is made. A call that document 01 refuses answers `refused` and its number. A refused build or read does not change the chart.
+#![tactic(auto)]
+
 pub mod faults;
 pub mod names;
 mod numbers;
@@ -36,7 +38,7 @@ pub const LINE_MOST: usize = 8191;
 // 3,000 bytes.
 pub const ANSWER_MOST: usize = 4096;
 
-#[derive(Drop)]
+#[derive(Clone, Copy)]
 pub struct Answered {
     pub chart: Chart,
     // The number of bytes of the answer, which ends in a line feed. It is 0 if the line is passed over.

@@ -6,7 +6,7 @@ use crate::numbers::field_at;
 use parsing::fields::same_bytes;
 
 // The commands that may change the chart.
-#[derive(Drop)]
+#[derive(Clone, Copy)]
 pub enum Change {
     Build,
     Post,
@@ -17,7 +17,7 @@ pub enum Change {
 }
 
 // The commands that do not change the chart.
-#[derive(Drop)]
+#[derive(Clone, Copy)]
 pub enum Inquiry {
     Word,
     Lines,
@@ -25,7 +25,7 @@ pub enum Inquiry {
     Show,
 }
 
-#[derive(Drop)]
+#[derive(Clone, Copy)]
 pub enum Name {
     Changes(Change),
     Asks(Inquiry),

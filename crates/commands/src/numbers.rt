@@ -8,7 +8,7 @@ use parsing::fields::{Field, first_field};
 use parsing::numbers::{Number, kind_in_field, number_in_field, reading_in_field, word_in_field};
 
 // The number in a field.
-#[derive(Drop)]
+#[derive(Clone, Copy)]
 pub struct NumberAt {
     // Whether there is a field.
     pub present: bool,
@@ -18,7 +18,7 @@ pub struct NumberAt {
 }
 
 // A kind and three readings.
-#[derive(Drop)]
+#[derive(Clone, Copy)]
 pub struct Readings {
     pub kind: u16,
     pub a: i64,

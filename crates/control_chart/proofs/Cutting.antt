@@ -1,4 +1,4 @@
--- A line that has ended, as the program finds it (`ended-line`). A line that is longer than the buffer is too long, whether it is cut or
+-- A line that has ended, as the program finds it (`ended_line_lem`). A line that is longer than the buffer is too long, whether it is cut or
 -- not (`cut_line`).
 use mathlib.Core.Path.{◌≡◌, sym, ap, ◌∙◌}
 use mathlib.Core.List.{List, [], ◌∷◌}

@@ -1,5 +1,5 @@
--- Laws of places in buffers: a place counts the bytes before it (`counted`, `counts`), also after a text was put (`text-counts`); and the
--- place after a line feed (`behind-feed`).
+-- Laws of places in buffers: a place counts the bytes before it (`counted`, `counts`), also after a text was put (`text_counts`); and the
+-- place after a line feed (`behind_feed`).
 use mathlib.Core.Path.{◌≡◌, sym}
 use mathlib.Core.List.{List}
 use Prim.Native.Nat.{ℕ, ◌+◌, ◌≤◌, ◌<◌}

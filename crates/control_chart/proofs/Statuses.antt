@@ -1,4 +1,4 @@
--- The status of a command on a file, from what the program has of its outcome and its text (`of-ending`).
+-- The status of a command on a file, from what the program has of its outcome and its text (`of_ending`).
 use mathlib.Core.Path.{sym}
 use mathlib.Core.List.{List}
 use Prim.Native.Nat.{ℕ, ◌≤◌}

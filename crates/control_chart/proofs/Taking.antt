@@ -1,16 +1,18 @@
 -- The input as the program takes it. The bytes up to a line feed are a part of the line (`turn`). What the program holds follows the
--- definitions: after a part of a line (`held-part`, `held-end`), at the end of the input (`held_none`, `held-last`), and from one read to
--- the next (`more-came`, `last-came`). If every answer was written, nothing is dropped (`held-told`, `unless-told`).
+-- definitions: after a part of a line (`held_part`, `held_end`), at the end of the input (`held_none`, `held_last`), and from one read to
+-- the next (`more_came`, `last_came`). If every answer was written, nothing is dropped (`held_told`, `unless_told`).
 use mathlib.Core.Path.{◌≡◌, refl, sym, ap, ◌∙◌}
 use mathlib.Core.Bool.{Bool, true, false, not, false≢true}
 use mathlib.Core.List.{List, [], ◌∷◌, ◌++◌, append_assoc, append-nil}
 use Prim.Native.Nat.{ℕ, suc, ◌+◌, ◌-◌, ◌<◌, ◌≤◌, zero-le}
 use native.Mathlib.Omega.{arith}
-use borrow.Author.Tests.{lt-ltb, le-ltb, eqb-true, not-true}
+use Rattle.std.proofs.Common.{eq-eqb}
+use Rattle.std.proofs.lemmas.List.{drop_more}
+use Rattle.std.proofs.Math.ListN.{drop_of_length-le}
+use borrow.Author.Tests.{ne_eqb, lt-ltb, le-ltb, eqb-true, not-true}
 use lib.Dec.{eqb, ltb}
 use lib.ListN.{length, take, drop, get_or, length-append, length-take, length-drop}
 use lib.Seq.{take_all, take-nil, take-suc, take-add, take_at, take-append-le}
-use Rattle.bytes.specs.Bytes.{slice, index_after, index_of}
 use Rattle.rules.specs.Choice.{choose}
 use Rattle.rules.proofs.Booleans.{by_test}
 use Rattle.rules.proofs.Integers.{by_order}
@@ -25,7 +27,7 @@ use Rattle.printing.specs.Output.{Puts}
 use Rattle.printing.proofs.Putting.{puts_length, puts_cut}
 use Rattle.control_chart.specs.declared.input.Pending.{Pending}
 use Rattle.control_chart.specs.declared.input.AfterRead.{AfterRead}
-use Rattle.control_chart.specs.Input.{SoFar, so_far, at_start, ended_line, after_line, after_ended, with_part, with_byte, with_bytes}
+use Rattle.control_chart.specs.Input.{SoFar, so_far, at_start, ended_line, after_line, after_ended, with_part, with_byte, with_bytes, to_line_feed}
 use Rattle.control_chart.specs.Input.{unless_failed, at_end, line_room, HoldsInput, Follows, HasRoom, CanTake, IsAfter, EndsLine}
 use Rattle.control_chart.specs.Input.{Taken, Came, IsInputRead, IsEnd}
 use Rattle.control_chart.proofs.Cutting.{cut_line}
@@ -48,21 +50,40 @@ more_bytes s bytes at n next e =
 -- ---- up to a line feed
 
 module _ (x : ℕ) (xs : List ℕ) where
-  feed_here : eqb x 10 ≡ true → index_of 10 (x ∷ xs) ≡ 0
-  unfolding index_of index_after
+  feed_here : eqb x 10 ≡ true → to_line_feed (x ∷ xs) ≡ 0
+  unfolding to_line_feed
   feed_here t = rw t
 
-  feed_later : eqb x 10 ≡ false → index_of 10 (x ∷ xs) ≡ suc (index_of 10 xs)
-  unfolding index_of index_after
+  feed_later : eqb x 10 ≡ false → to_line_feed (x ∷ xs) ≡ suc (to_line_feed xs)
+  unfolding to_line_feed
   feed_later t = rw t
 
-feed_found : (xs : List ℕ) → index_of 10 xs < length xs → get_or xs (index_of 10 xs) 0 ≡ 10
-unfolding index_of
+feed_found : (xs : List ℕ) → to_line_feed xs < length xs → get_or xs (to_line_feed xs) 0 ≡ 10
+unfolding to_line_feed
 feed_found [] h = absurd (omega arith)
 feed_found (x ∷ xs) h =
     by_test (eqb x 10)
     (λ t. rw (feed_here x xs t) (eqb-true x 10 t))
     (λ t. rw (feed_later x xs t) (feed_found xs (omega (arith, feed_later x xs t))))
+
+-- the search for a line feed, from a place on: it is there, it is not there, or the bytes have ended
+module _ (bytes : List ℕ) (end : ℕ) where
+  pub feed_at : end < length bytes → get_or bytes end 0 ≡ 10 → to_line_feed (drop end bytes) ≡ 0
+  feed_at h e = ap to_line_feed (drop_more bytes end 0 h) ∙ feed_here _ _ (eq-eqb _ _ e)
+
+  pub no_feed_at : end < length bytes → (get_or bytes end 0 ≡ 10 → ⊥)
+      → to_line_feed (drop end bytes) ≡ suc (to_line_feed (drop (end + 1) bytes))
+  no_feed_at h ne = ap to_line_feed (drop_more bytes end 0 h) ∙ feed_later _ _ (ne_eqb _ _ ne)
+
+  pub feed_none : length bytes ≤ end → to_line_feed (drop end bytes) ≡ 0
+  unfolding to_line_feed
+  feed_none h = ap to_line_feed (drop_of_length-le bytes h)
+
+-- the search has come to a place, and has found no line feed before it
+pub record SearchedTo (bytes : List ℕ) (at end : ℕ) : Type 0 where
+  pub within : end ≤ length bytes
+  pub from : at ≤ end
+  pub same : at + to_line_feed (drop at bytes) ≡ end + to_line_feed (drop end bytes)
 
 -- the line goes on, and nothing else changes
 abbrev going_on : SoFar → List ℕ → SoFar
@@ -74,25 +95,25 @@ unfolding with_byte with_part
 byte_kept s b t = rw t
 
 -- .. so the bytes before a line feed belong to it
-before_feed : (s : SoFar) (xs : List ℕ) → let part = take (index_of 10 xs) xs in with_bytes s part ≡ with_part s part false
+before_feed : (s : SoFar) (xs : List ℕ) → let part = take (to_line_feed xs) xs in with_bytes s part ≡ with_part s part false
 unfolding with_bytes with_part
 before_feed s [] = rw take-nil (ap (going_on s) (sym (append-nil s.line)))
 before_feed s (x ∷ xs) =
     by_test (eqb x 10)
     (λ t. rw (feed_here x xs t) (ap (going_on s) (sym (append-nil s.line))))
     (λ t.
-    let part = take (index_of 10 xs) xs in
+    let part = take (to_line_feed xs) xs in
     rw (feed_later x xs t)
     (ap (λ (next : SoFar). with_bytes next part) (byte_kept s x t)
     ∙ before_feed (going_on s (s.line ++ (x ∷ []))) xs
     ∙ ap (going_on s) (append_assoc s.line (x ∷ []) part)))
 
 -- .. and the line feed ends it
-feed_ends : (s : SoFar) (xs : List ℕ) → index_of 10 xs < length xs
-    → with_bytes s (take (suc (index_of 10 xs)) xs) ≡ with_part s (take (index_of 10 xs) xs) true
+feed_ends : (s : SoFar) (xs : List ℕ) → to_line_feed xs < length xs
+    → with_bytes s (take (suc (to_line_feed xs)) xs) ≡ with_part s (take (to_line_feed xs) xs) true
 unfolding with_bytes with_byte with_part after_ended
 feed_ends s xs h =
-    let k = index_of 10 xs in
+    let k = to_line_feed xs in
     let part = take k xs in
     let bytes = take-suc xs k 0 h ∙ ap (λ (b : ℕ). part ++ (b ∷ [])) (feed_found xs h) in
     ap (with_bytes s) bytes ∙ reads_joined s part (10 ∷ [])
@@ -100,15 +121,13 @@ feed_ends s xs h =
     ∙ ap (after_ended s) (append-nil (s.line ++ part))
 
 -- a turn of the loop, from `at` up to the end that was found
-pub turn : (s : SoFar) (bytes : List ℕ) (at end next : ℕ) → at ≤ length bytes → end ≡ at + index_of 10 (slice at (length bytes) bytes)
+pub turn : (s : SoFar) (bytes : List ℕ) (at end next : ℕ) → at ≤ length bytes → end ≡ at + to_line_feed (drop at bytes)
     → next ≡ choose (ltb end (length bytes)) (end + 1) end
     → with_bytes s (take next bytes) ≡ with_part (with_bytes s (take at bytes)) (take (end - at) (drop at bytes)) (ltb end (length bytes))
-unfolding slice
 turn s bytes at end next h found behind =
     let xs = drop at bytes in
-    let k = index_of 10 xs in
-    let all = take_all (length bytes) bytes (omega arith) in
-    let place : end ≡ at + k = rw all at found in
+    let k = to_line_feed xs in
+    let place : end ≡ at + k = found in
     let size : end - at ≡ k = omega arith in
     let before = with_bytes s (take at bytes) in
     by_order end (length bytes)
@@ -222,7 +241,7 @@ none_taken bytes can =
 
 -- .. and then the part of a line up to the end that was found
 pub part_taken : {p q r : Pending} {before between after : List ℕ} (bytes : List ℕ) (at end next : ℕ) → TakenTo bytes at p before q between
-    → end ≡ at + index_of 10 (slice at (length bytes) bytes) → next ≡ choose (ltb end (length bytes)) (end + 1) end
+    → end ≡ at + to_line_feed (drop at bytes) → next ≡ choose (ltb end (length bytes)) (end + 1) end
     → Follows (λ s. with_part s (take (end - at) (drop at bytes)) (ltb end (length bytes))) q between r after
     → Follows (λ s. with_bytes s (take next bytes)) p before r after
 part_taken bytes at end next taken found behind part s held =

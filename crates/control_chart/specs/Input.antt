@@ -1,6 +1,7 @@
 -- The input, byte by byte: the chart after the lines that have ended, the bytes of the line that has begun, and the exit status of the
--- answers so far. It makes no difference how reads divide the input (`reads-joined` in `proofs/Taking`).
+-- answers so far. It makes no difference how reads divide the input (`reads_joined` in `proofs/Taking`).
 use Rattle.std.specs.Prelude.{◌≡◌, Bool, true, false, not, List, [], ◌∷◌, ◌++◌, ℕ, ◌+◌, ◌≤◌, min, max, length, take, eqb}
+use Prim.Native.Nat.{suc}
 use Rattle.rules.specs.Choice.{choose}
 use Rattle.chart.specs.declared.Chart.{Chart}
 use Rattle.chart.specs.Chart.{zero_chart}
@@ -53,6 +54,11 @@ with_byte s b = choose (eqb b 10) (with_part s [] true) (with_part s (b ∷ []) 
 unfoldable pub with_bytes : SoFar → List ℕ → SoFar
 with_bytes s [] = s
 with_bytes s (b ∷ bytes) = with_bytes (with_byte s b) bytes
+
+-- how many bytes there are before the first line feed; if there is none, all of them
+unfoldable pub to_line_feed : List ℕ → ℕ
+to_line_feed [] = 0
+to_line_feed (b ∷ bytes) = choose (eqb b 10) 0 (suc (to_line_feed bytes))
 
 -- if a read failed or an answer was not written, the status is 3 (error), and a line that has begun is dropped
 unfoldable pub unless_failed : Bool → SoFar → SoFar

@@ -1,4 +1,4 @@
-// The arguments as a line.
+// The arguments, and those of a command as a line.
 ghost use Rattle.std.specs.Prelude.{[], ◌∷◌, ◌≤◌, length, eqb};
 ghost use Rattle.io.specs.Counts.{IsPrefixLen};
 ghost use Rattle.rules.specs.Choice.{choose};
@@ -8,32 +8,53 @@ ghost use Rattle.printing.specs.Decimal.{space_code};
 use crate::input::LINE_ROOM;
 use crate::say::put_within;
 use printing::put_byte;
+use std::env::FillError;
+use std::rt::Env;
+
+// How many arguments there are, with the program's name.
+pub fn argument_count(rt: HostRuntime) -> usize {
+    for count in 0..usize::MAX {
+        if !is_argument(rt, count) {
+            return count;
+        }
+    }
+    usize::MAX
+}
+
+fn is_argument(rt: HostRuntime, i: usize) -> bool {
+    let mut none = [0u8; 0];
+    match rt.arg(i, &mut none) {
+        Err(FillError::NotPresent) => false,
+        _ => true,
+    }
+}
 
 // Puts the arguments from `first` on into a line, with a blank between two. Answers the line's length.
-pub fn join_arguments(first: usize, count: usize, line: &mut [u8]) -> usize
+pub fn join_arguments(rt: HostRuntime, first: usize, count: usize, line: &mut [u8]) -> usize
     ensures { IsPrefixLen result line.new }
 {
     let mut at: usize = 0;
     let mut i = first;
     while i < count {
-        at = put_argument(i, line, at);
+        at = put_argument(rt, i, line, at);
         i += 1;
     }
     at
 }
 
 // An argument that is longer than a line gives a line as long as the buffer, which is too long.
-fn put_argument(i: usize, line: &mut [u8], at: usize) -> usize
+fn put_argument(rt: HostRuntime, i: usize, line: &mut [u8], at: usize) -> usize
     requires { at ≤ length line.old }
     ensures { result ≤ length line.new }
 {
     let mut argument = [0u8; LINE_ROOM];
-    let n = os::arg(i, &mut argument);
-    if os::errno() != 0 {
-        return line.len();
+    match rt.arg(i, &mut argument) {
+        Ok(n) => {
+            let next = put_blank(line, at);
+            put_within(line, next, &argument[..n])
+        }
+        Err(_) => line.len(),
     }
-    let next = put_blank(line, at);
-    put_within(line, next, &argument[..n])
 }
 
 // Puts a blank between two arguments, and none in front of the first.

@@ -16,46 +16,52 @@ use commands::ANSWER_MOST;
 use outcomes::names::{is_name, may_change};
 use outcomes::status::exit_status;
 use outcomes::{Outcome, on_file};
+use std::fs::File;
+use std::io::{ErrorKind, Result};
 use store::FORM_MOST;
 use system::Permissions;
 
 // One byte more than the longest stored form. So a longer file is not taken for a stored form.
 const FILE_ROOM: usize = FORM_MOST + 1;
 
+// Room for a path.
+const PATH_ROOM: usize = 4096;
+
 // Does the command that begins with the argument `first`. Answers the exit status.
-pub fn command_on_file(path: &[u8], first: usize, count: usize) -> u8 {
+pub fn command_on_file(rt: HostRuntime, path: &[u8], first: usize, count: usize) -> u8 {
     let mut line = [0u8; LINE_ROOM];
-    let len = join_arguments(first, count, &mut line);
-    if is_command_alone(path) {
-        return file_first(path);
+    let len = join_arguments(rt, first, count, &mut line);
+    if is_command_alone(rt, path) {
+        return file_first(rt, path);
     }
     if may_change(&line[..len]) {
-        return change_file(path, &line[..len]);
+        return change_file(rt, path, &line[..len]);
     }
-    look_at_file(path, &line[..len])
+    look_at_file(rt, path, &line[..len])
 }
 
 // Whether the path is a command's name, and there is no file of that name.
-fn is_command_alone(path: &[u8]) -> bool {
+fn is_command_alone(rt: HostRuntime, path: &[u8]) -> bool {
     if is_name(path) {
-        return system::access(path, libc::F_OK) != 0;
+        return system::access(rt, path, system::F_OK).is_err();
     }
     false
 }
 
 // ---- a command that only reads
 
-fn look_at_file(path: &[u8], line: &[u8]) -> u8 {
+fn look_at_file(rt: HostRuntime, path: &[u8], line: &[u8]) -> u8 {
     let mut held = [0u8; FILE_ROOM];
-    let read = read_file(path, &mut held);
-    let n = read.len;
-    if !read.done {
-        return failure(path, b"it cannot be read");
+    match read_file(rt, path, &mut held) {
+        Ok(read) => {
+            let n = read.len;
+            say_look(rt, path, read.there, &held[..n], line)
+        }
+        Err(reason) => failure(rt, path, b"it cannot be read", reason),
     }
-    say_look(path, read.there, &held[..n], line)
 }
 
-fn say_look(path: &[u8], there: bool, held: &[u8], line: &[u8]) -> u8
+fn say_look(rt: HostRuntime, path: &[u8], there: bool, held: &[u8], line: &[u8]) -> u8
     ensures { StatusOfEnding (ending (start_of (held_in there held.now) line.now) line.now (form_most + 1)) result }
 {
     let mut form = [0u8; FILE_ROOM];
@@ -63,26 +69,29 @@ fn say_look(path: &[u8], there: bool, held: &[u8], line: &[u8]) -> u8
     let r = on_file(there, held, line, &mut form, &mut out);
     let size = r.size;
     let outcome = r.outcome;
-    say_outcome(path, outcome, &out[..size])
+    say_outcome(rt, path, outcome, &out[..size])
 }
 
 // Says what a command comes to whose file stays as it is. The last two arms are never reached. A command that may not change the chart
-// never changes the file (`only-read` in `outcomes/proofs/Files`), and the buffer has room for every form (`room-enough`).
-fn say_outcome(path: &[u8], outcome: Outcome, text: &[u8]) -> u8
+// never changes the file (`only_read` in `outcomes/proofs/Files`), and the buffer has room for every form (`room_enough`).
+fn say_outcome(rt: HostRuntime, path: &[u8], outcome: Outcome, text: &[u8]) -> u8
     ensures { StatusAfter outcome text.now result }
 {
     match outcome {
         Outcome::Answered => answer(
+            rt,
             path,
             text,
             b"it is as it was, and the answer cannot be written",
         ),
-        Outcome::Fault => error(path, text),
+        Outcome::Fault => error(rt, path, text),
         Outcome::Changed => error(
+            rt,
             path,
             b"it would be changed without a lock; nothing was done",
         ),
         Outcome::NoRoom => error(
+            rt,
             path,
             b"the chart is too long for a stored form; nothing was done",
         ),
@@ -90,62 +99,88 @@ fn say_outcome(path: &[u8], outcome: Outcome, text: &[u8]) -> u8
 }
 
 // Says an answer. If it cannot be written, says what has become of the file and the command.
-fn answer(path: &[u8], text: &[u8], otherwise: &[u8]) -> u8
+fn answer(rt: HostRuntime, path: &[u8], text: &[u8], otherwise: &[u8]) -> u8
     ensures { StatusBy text.now result }
 {
-    if say(text) {
-        return exit_status(text);
+    match say(rt, text) {
+        Ok(()) => exit_status(text),
+        Err(reason) => failure(rt, path, otherwise, reason),
     }
-    failure(path, otherwise)
 }
 
 // ---- a command that may change the chart
 
-fn change_file(path: &[u8], line: &[u8]) -> u8 {
-    if system::is_link(path) {
+fn change_file(rt: HostRuntime, path: &[u8], line: &[u8]) -> u8 {
+    if system::is_link(rt, path) {
         return error(
+            rt,
             path,
             b"it is a link, which is not replaced; give the name of the file that it leads to",
         );
     }
-    if !may_be_written(path) {
-        return failure(path, b"it may not be written, and is as it was");
+    if let Err(reason) = may_be_written(rt, path) {
+        return failure(rt, path, b"it may not be written, and is as it was", reason);
     }
-    let mut name = io::buffer();
+    let mut name = [0u8; PATH_ROOM];
     let n = put_lock_name(path, &mut name);
-    let fd = take_lock(path, &name[..n]);
-    if fd < 0 {
-        return ERROR;
+    match take_lock(rt, path, &name[..n]) {
+        Some(file) => {
+            let status = change_locked(rt, path, &name[..n], &file, line);
+            system::keep_open(file);
+            status
+        }
+        None => ERROR,
     }
-    change_locked(path, &name[..n], fd, line)
 }
 
 // Whether this user may write the file, or there is no file.
-fn may_be_written(path: &[u8]) -> bool {
-    if system::access(path, libc::W_OK) == 0 {
-        return true;
+fn may_be_written(rt: HostRuntime, path: &[u8]) -> Result<()> {
+    match system::access(rt, path, system::W_OK) {
+        Ok(()) => Ok(()),
+        Err(reason) => {
+            if reason.kind() == ErrorKind::NotFound {
+                return Ok(());
+            }
+            Err(reason)
+        }
     }
-    os::errno() == libc::ENOENT
 }
 
 // This process has the lock.
-fn change_locked(path: &[u8], lock: &[u8], fd: i32, line: &[u8]) -> u8 {
+fn change_locked(rt: HostRuntime, path: &[u8], lock: &[u8], file: &File, line: &[u8]) -> u8 {
     let mut held = [0u8; FILE_ROOM];
-    let read = read_file(path, &mut held);
-    let n = read.len;
-    if !read.done {
-        failure(path, b"it cannot be read, and the command was not done");
-        release(lock, fd);
-        return ERROR;
+    match read_file(rt, path, &mut held) {
+        Ok(read) => {
+            let n = read.len;
+            change_held(
+                rt,
+                path,
+                lock,
+                file,
+                read.permissions,
+                read.there,
+                &held[..n],
+                line,
+            )
+        }
+        Err(reason) => {
+            failure(
+                rt,
+                path,
+                b"it cannot be read, and the command was not done",
+                reason,
+            );
+            release(rt, lock, file);
+            ERROR
+        }
     }
-    let permissions = read.permissions;
-    change_held(path, lock, fd, permissions, read.there, &held[..n], line)
 }
 
 fn change_held(
+    rt: HostRuntime,
     path: &[u8],
     lock: &[u8],
-    fd: i32,
+    file: &File,
     permissions: Permissions,
     there: bool,
     held: &[u8],
@@ -160,39 +195,51 @@ fn change_held(
     let size = r.size;
     let outcome = r.outcome;
     match outcome {
-        Outcome::Changed => keep(path, lock, fd, permissions, &form[..n], &out[..size]),
+        Outcome::Changed => keep(rt, path, lock, file, permissions, &form[..n], &out[..size]),
         _ => {
-            release(lock, fd);
-            say_outcome(path, outcome, &out[..size])
+            release(rt, lock, file);
+            say_outcome(rt, path, outcome, &out[..size])
         }
     }
 }
 
 // Puts the new form into the file, then says the answer.
 fn keep(
+    rt: HostRuntime,
     path: &[u8],
     lock: &[u8],
-    fd: i32,
+    file: &File,
     permissions: Permissions,
     form: &[u8],
     reply: &[u8],
 ) -> u8
     ensures { StatusBy reply.now result }
 {
-    if !replace_file(path, lock, fd, permissions, form) {
+    if !replace_file(rt, path, lock, file, permissions, form) {
         return ERROR;
     }
-    let synced = sync_folder(path);
-    if !synced {
-        failure(
-            path,
-            b"it is replaced, but its folder cannot be synced: after a loss of power it may be the old one",
-        );
-    }
+    let synced = is_folder_synced(rt, path);
     let status = answer(
+        rt,
         path,
         reply,
         b"the command was done, but its answer cannot be written",
     );
     if synced { status } else { ERROR }
+}
+
+// Syncs the file's folder. If that fails, says why.
+fn is_folder_synced(rt: HostRuntime, path: &[u8]) -> bool {
+    match sync_folder(rt, path) {
+        Ok(()) => true,
+        Err(reason) => {
+            failure(
+                rt,
+                path,
+                b"it is replaced, but its folder cannot be synced: after a loss of power it may be the old one",
+                reason,
+            );
+            false
+        }
+    }
 }

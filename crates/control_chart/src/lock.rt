@@ -3,6 +3,8 @@
 ghost use Rattle.io.specs.Counts.{IsPrefixLen};
 
 use crate::say::{error, failure, put_within};
+use std::fs::File;
+use std::io::{Error, ErrorKind};
 
 // Room for what is said about a lock: the longest name, and what to do.
 const LOCKED_ROOM: usize = 8192;
@@ -18,29 +20,39 @@ pub fn put_lock_name(path: &[u8], name: &mut [u8]) -> usize
     put_within(name, behind_path, b".lock")
 }
 
-// Makes the lock, and answers a descriptor that is open for writing to it. If it cannot make the lock, it says why and answers less than 0.
-pub fn take_lock(path: &[u8], lock: &[u8]) -> i32 {
+// Makes the lock, and answers the file, open for writing to it. If it cannot make the lock, it says why.
+pub fn take_lock(rt: HostRuntime, path: &[u8], lock: &[u8]) -> Option<File> {
     let mut left = TRIES;
     while 0 < left {
-        let fd = os::create(lock);
-        if 0 <= fd {
-            return fd;
+        match system::create(rt, lock) {
+            Ok(file) => return Some(file),
+            Err(reason) => {
+                if reason.kind() != ErrorKind::AlreadyExists {
+                    return no_lock(rt, path, reason);
+                }
+            }
         }
-        if os::errno() != libc::EEXIST {
-            failure(path, b"its lock cannot be made, and nothing was done");
-            return fd;
-        }
-        system::pause();
+        system::pause(rt);
         left -= 1;
     }
-    say_locked(path, lock);
-    -1
+    say_locked(rt, path, lock);
+    None
 }
 
-fn say_locked(path: &[u8], lock: &[u8]) {
+fn no_lock(rt: HostRuntime, path: &[u8], reason: Error) -> Option<File> {
+    failure(
+        rt,
+        path,
+        b"its lock cannot be made, and nothing was done",
+        reason,
+    );
+    None
+}
+
+fn say_locked(rt: HostRuntime, path: &[u8], lock: &[u8]) {
     let mut text = [0u8; LOCKED_ROOM];
     let n = put_locked(lock, &mut text);
-    error(path, &text[..n]);
+    error(rt, path, &text[..n]);
 }
 
 fn put_locked(lock: &[u8], text: &mut [u8]) -> usize
@@ -57,8 +69,8 @@ fn put_locked(lock: &[u8], text: &mut [u8]) -> usize
 
 // Removes the lock that this process made. The file stays as it is. If somebody removed the lock already, nothing is removed: the name may
 // by now be that of another process's lock.
-pub fn release(lock: &[u8], fd: i32) {
-    if system::has_name(fd) {
-        os::unlink(lock);
+pub fn release(rt: HostRuntime, lock: &[u8], file: &File) {
+    if system::has_name(file) {
+        let _ = system::remove(rt, lock);
     }
 }

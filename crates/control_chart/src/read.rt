@@ -1,43 +1,39 @@
 // The bytes of a file.
-ghost use Rattle.std.specs.Prelude.{◌≡◌};
+ghost use Rattle.std.specs.Prelude.{◌≡◌, IfOk};
 ghost use Rattle.io.specs.Counts.{IsPrefixLen};
 
+use std::fs::File;
+use std::io::{ErrorKind, Read, Result};
 use system::Permissions;
 
-// What reading a file gave: whether all went well, whether there is a file, how many bytes were read, and its permissions. A file that is
-// longer than the buffer is read only until the buffer is full. These bytes are longer than any stored form, so they are none either.
+// What reading a file gave: whether there is a file, how many bytes were read, and its permissions. A file that is longer than the buffer is
+// read only until the buffer is full. These bytes are longer than any stored form, so they are none either.
 #[derive(Drop)]
 pub struct FileRead {
-    pub done: bool,
     pub there: bool,
     pub len: usize,
     pub permissions: Permissions,
 }
 
-// It is no failure if there is no file. If a call fails, the file is not closed, so that the reason is still the system's last one.
-pub fn read_file(path: &[u8], held: &mut [u8]) -> FileRead
-    ensures { IsPrefixLen result.len held.new }
+// It is no failure if there is no file.
+pub fn read_file(rt: HostRuntime, path: &[u8], held: &mut [u8]) -> Result<FileRead>
+    ensures { IfOk result (λ r. IsPrefixLen r.len held.new) }
 {
-    let fd = os::open_read(path);
-    if fd < 0 {
-        return no_file(os::errno() == libc::ENOENT);
+    match system::open_read(rt, path) {
+        Ok(file) => read_open(file, held),
+        Err(error) => {
+            if error.kind() == ErrorKind::NotFound {
+                return Ok(no_file());
+            }
+            Err(error)
+        }
     }
-    let permissions = system::permissions_of(fd);
-    if !permissions.known {
-        return no_file(false);
-    }
-    let read = read_all(fd, permissions, held);
-    if read.done {
-        libc::close(fd);
-    }
-    read
 }
 
-fn no_file(done: bool) -> FileRead
+fn no_file() -> FileRead
     ensures { result.len ≡ 0 }
 {
     FileRead {
-        done,
         there: false,
         len: 0,
         permissions: Permissions {
@@ -49,26 +45,29 @@ fn no_file(done: bool) -> FileRead
     }
 }
 
+fn read_open(file: File, held: &mut [u8]) -> Result<FileRead>
+    ensures { IfOk result (λ r. IsPrefixLen r.len held.new) }
+{
+    let permissions = system::permissions_of(&file)?;
+    let len = read_all(file, held)?;
+    Ok(FileRead {
+        there: true,
+        len,
+        permissions,
+    })
+}
+
 // Reads to the end, or until the buffer is full. A read may bring less than there is.
-fn read_all(fd: i32, permissions: Permissions, bytes: &mut [u8]) -> FileRead
-    ensures { IsPrefixLen result.len bytes.new }
+fn read_all(mut file: File, bytes: &mut [u8]) -> Result<usize>
+    ensures { IfOk result (λ len. IsPrefixLen len bytes.new) }
 {
     let mut len: usize = 0;
     while len < bytes.len() {
-        let got = libc::read(fd, &mut bytes[len..]);
-        if got < 0 {
-            return no_file(false);
-        }
-        let n = io::count(got, &bytes[len..]);
+        let n = file.read(&mut bytes[len..])?;
         if n == 0 {
             break;
         }
         len += n;
     }
-    FileRead {
-        done: true,
-        there: true,
-        len,
-        permissions,
-    }
+    Ok(len)
 }

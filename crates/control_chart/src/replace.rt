@@ -5,87 +5,95 @@ ghost use Rattle.control_chart.specs.Folder.{IsFolder};
 
 use crate::lock::release;
 use crate::say::{error, failure, write_text};
+use std::fs;
+use std::fs::File;
+use std::io::{ErrorKind, Result};
+use std::os::unix::fs::{PermissionsExt, fchown};
 use system::Permissions;
-
-// With this number `fchown` leaves the owner as it is.
-const SAME_OWNER: u32 = 4294967295;
 
 // Answers whether the file was replaced. If not, the reason is said, the lock is gone, and the file is as it was. The lock stays open, to
 // test whether it is still there: if somebody removed it, its name may by now be that of another process's lock.
 pub fn replace_file(
+    rt: HostRuntime,
     path: &[u8],
     lock: &[u8],
-    fd: i32,
+    file: &File,
     permissions: Permissions,
     form: &[u8],
 ) -> bool {
-    if !fill_lock(fd, permissions, form) {
+    if let Err(reason) = fill_lock(rt, file, permissions, form) {
         failure(
+            rt,
             path,
             b"it cannot be written and is as it was, and the command was not done",
+            reason,
         );
-        release(lock, fd);
+        release(rt, lock, file);
         return false;
     }
-    if !system::has_name(fd) {
+    if !system::has_name(file) {
         error(
+            rt,
             path,
             b"its lock was removed by somebody else; it is as it was, and the command was not done",
         );
         return false;
     }
-    if os::rename(lock, path) != 0 {
+    if let Err(reason) = system::rename(rt, lock, path) {
         failure(
+            rt,
             path,
             b"it cannot be replaced and is as it was, and the command was not done",
+            reason,
         );
-        release(lock, fd);
+        release(rt, lock, file);
         return false;
     }
     true
 }
 
 // Gives the lock the old file's permissions, writes the new bytes and syncs them.
-fn fill_lock(fd: i32, permissions: Permissions, form: &[u8]) -> bool {
-    if !give_permissions(fd, permissions) {
-        return false;
-    }
-    if !write_text(fd, form) {
-        return false;
-    }
-    libc::fsync(fd) == 0
+fn fill_lock(rt: HostRuntime, file: &File, permissions: Permissions, form: &[u8]) -> Result<()> {
+    give_permissions(file, permissions)?;
+    let mut to = file;
+    write_text(rt, &mut to, form)?;
+    file.sync_all()
 }
 
 // Gives the lock the mode of the old file. It also gives the old owner and group, as far as this user may.
-fn give_permissions(fd: i32, permissions: Permissions) -> bool {
+fn give_permissions(file: &File, permissions: Permissions) -> Result<()> {
     if !permissions.known {
-        return true;
+        return Ok(());
     }
-    if libc::fchown(fd, permissions.owner, permissions.group) != 0 {
-        libc::fchown(fd, SAME_OWNER, permissions.group);
+    if fchown(file, Some(permissions.owner), Some(permissions.group)).is_err() {
+        let _ = fchown(file, None, Some(permissions.group));
     }
-    libc::fchmod(fd, permissions.mode) == 0
+    file.set_permissions(fs::Permissions::from_mode(permissions.mode))
 }
 
-// Syncs the file's folder, so that the file is still the new one after a loss of power. Answers whether that was done. EINVAL is no
-// failure: the file system does not sync folders.
-pub fn sync_folder(path: &[u8]) -> bool {
+// Syncs the file's folder, so that the file is still the new one after a loss of power. EINVAL is no failure: the file system does not sync
+// folders.
+pub fn sync_folder(rt: HostRuntime, path: &[u8]) -> Result<()> {
     let n = folder_len(path);
     if n == 0 {
-        return sync_named(b".");
+        return sync_named(rt, b".");
     }
-    sync_named(&path[..n])
+    sync_named(rt, &path[..n])
 }
 
-fn sync_named(folder: &[u8]) -> bool {
-    let fd = os::open_read(folder);
-    if fd < 0 {
-        return false;
+fn sync_named(rt: HostRuntime, name: &[u8]) -> Result<()> {
+    let folder = system::open_read(rt, name)?;
+    let synced = folder.sync_all();
+    system::keep_open(folder);
+    match synced {
+        Ok(()) => Ok(()),
+        Err(reason) => {
+            if reason.kind() == ErrorKind::InvalidInput {
+                return Ok(());
+            }
+            Err(reason)
+        }
     }
-    if libc::fsync(fd) == 0 {
-        return true;
-    }
-    os::errno() == libc::EINVAL
 }
 
 // How many bytes there are up to the last '/', which counts too; 0 if there is no '/'.

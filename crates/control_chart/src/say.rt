@@ -1,9 +1,10 @@
 // Text to standard output, and errors to standard error.
-ghost use Rattle.std.specs.Prelude.{◌≡◌, ◌≤◌, length};
+ghost use Rattle.std.specs.Prelude.{◌≡◌, ◌≤◌, length, IfOk};
 ghost use Rattle.io.specs.Counts.{IsPrefixLen};
 
-use libc::{STDERR_FILENO, STDOUT_FILENO};
+use parsing::text::begins_with;
 use printing::put_text;
+use std::io::{Cursor, Error, ErrorKind, Result, Write};
 
 // The exit status of an error.
 pub const ERROR: u8 = 3;
@@ -11,94 +12,103 @@ pub const ERROR: u8 = 3;
 // Room for an error: the longest name, and what is wrong, which may contain the lock's name too.
 const ERROR_ROOM: usize = 16384;
 
-// How many bytes a write took, and whether to go on.
-#[derive(Drop)]
-struct Written {
-    more: bool,
-    count: usize,
+// Room for the system's words.
+const REASON_ROOM: usize = 256;
+
+pub fn say(rt: HostRuntime, text: &[u8]) -> Result<()> {
+    let mut out = rt.stdout();
+    write_text(rt, &mut out, text)
 }
 
-pub fn say(text: &[u8]) -> bool {
-    write_text(STDOUT_FILENO, text)
+// Says a part of a longer text. Only the text's last part tells whether it could be written.
+pub fn say_part(rt: HostRuntime, text: &[u8]) {
+    let _ = say(rt, text);
 }
 
 // Says the text at the front of a buffer. `texts` and `printing` answer its size, which is never more than the buffer's.
-pub fn say_front(out: &[u8], size: usize) {
+pub fn say_front(rt: HostRuntime, out: &[u8], size: usize) {
     if size <= out.len() {
-        say(&out[..size]);
+        say_part(rt, &out[..size]);
     }
 }
 
-// Writes all of a text, and answers whether it could. It waits if the system cannot take a byte at the moment. No contract says that a
-// write ever takes a byte, so the loop counts its writes: 2^63 are more than any text needs.
-pub fn write_text(fd: i32, text: &[u8]) -> bool {
+// Writes all of a text, or answers why it could not. It waits if the system cannot take a byte at the moment. No contract says that a write
+// ever takes a byte, so the loop counts its writes: 2^63 are more than any text needs.
+pub fn write_text<W: Write>(rt: HostRuntime, to: &mut W, text: &[u8]) -> Result<()> {
     let mut at: usize = 0;
     let mut left: u64 = 9223372036854775808;
     while 0 < left {
         if at == text.len() {
-            return true;
+            return Ok(());
         }
-        let written = write_some(fd, &text[at..]);
-        at += written.count;
-        if !written.more {
-            return false;
-        }
+        at += write_some(rt, to, &text[at..])?;
         left -= 1;
     }
-    false
+    Err(Error::from(ErrorKind::TimedOut))
 }
 
-fn write_some(fd: i32, text: &[u8]) -> Written
-    ensures { result.count ≤ length text.now }
+// How many bytes a write took. 0 means to write again.
+fn write_some<W: Write>(rt: HostRuntime, to: &mut W, text: &[u8]) -> Result<usize>
+    ensures { IfOk result (λ count. count ≤ length text.now) }
 {
-    let got = libc::write(fd, text);
-    let count = io::count(got, text);
-    if 0 < count {
-        return Written { more: true, count };
-    }
-    Written {
-        more: passes(os::errno()),
-        count: 0,
+    match to.write(text) {
+        Ok(0) => Err(Error::from(ErrorKind::WriteZero)),
+        Ok(count) => Ok(count),
+        Err(error) => {
+            if passes(rt, error) {
+                return Ok(0);
+            }
+            Err(error)
+        }
     }
 }
 
 // Whether to write again: the system takes no byte at the moment (then this pauses), or a signal came.
-fn passes(error: i32) -> bool {
-    if error == libc::EAGAIN {
-        system::pause();
+fn passes(rt: HostRuntime, error: Error) -> bool {
+    if error.kind() == ErrorKind::WouldBlock {
+        system::pause(rt);
         return true;
     }
-    error == libc::EINTR
+    error.kind() == ErrorKind::Interrupted
 }
 
 // Says an error: the name of the file, what is wrong, and what to do. Answers the exit status.
-pub fn error(name: &[u8], what: &[u8]) -> u8
+pub fn error(rt: HostRuntime, name: &[u8], what: &[u8]) -> u8
     ensures { result ≡ 3 }
 {
     let mut text = [0u8; ERROR_ROOM];
     let n = put_error(&mut text, name, what, b"\n");
-    write_text(STDERR_FILENO, &text[..n]);
+    tell(rt, &text[..n]);
     ERROR
 }
 
 // Says the error of a command's name in the place of FILE.
-pub fn file_first(word: &[u8]) -> u8
+pub fn file_first(rt: HostRuntime, word: &[u8]) -> u8
     ensures { result ≡ 3 }
 {
     error(
+        rt,
         word,
         b"it is a command, and FILE comes first, as in: control_chart lead.chart show",
     )
 }
 
-// Says an error of a system call that has just failed. The system's reason follows, in its own words.
-pub fn failure(name: &[u8], what: &[u8]) -> u8
+// Says an error of a system call. The system's reason follows, in its own words.
+pub fn failure(rt: HostRuntime, name: &[u8], what: &[u8], reason: Error) -> u8
     ensures { result ≡ 3 }
 {
     let mut text = [0u8; ERROR_ROOM];
-    let n = put_error(&mut text, name, what, b"");
-    os::fail(&text[..n]);
+    let behind_what = put_error(&mut text, name, what, b": ");
+    let behind_reason = put_reason(&mut text, behind_what, reason);
+    let n = put_within(&mut text, behind_reason, b"\n");
+    tell(rt, &text[..n]);
     ERROR
+}
+
+// If standard error takes no text, there is nowhere to say so.
+fn tell(rt: HostRuntime, text: &[u8]) {
+    let mut errors = rt.stderr();
+    let _ = write_text(rt, &mut errors, text);
 }
 
 // `error: NAME: WHAT`, and what follows it.
@@ -110,6 +120,36 @@ fn put_error(text: &mut [u8], name: &[u8], what: &[u8], end: &[u8]) -> usize
     let at_what = put_within(text, behind_name, b": ");
     let behind_what = put_within(text, at_what, what);
     put_within(text, behind_what, end)
+}
+
+// The system's words for an error. `std` shows its number behind them, as in `No such file or directory (os error 2)`.
+fn put_reason(text: &mut [u8], at: usize, reason: Error) -> usize
+    requires { at ≤ length text.old }
+    ensures { IsPrefixLen result text.new }
+{
+    let mut shown = Cursor::new([0u8; REASON_ROOM]);
+    let _ = write!(shown, "{reason}");
+    let words = shown.into_inner();
+    let n = words_len(&words);
+    put_within(text, at, &words[..n])
+}
+
+// How many bytes there are before ` (os error`; if there is none, before the first 0.
+fn words_len(shown: &[u8]) -> usize
+    ensures { IsPrefixLen result shown.now }
+{
+    let mut n: usize = 0;
+    while n < shown.len() {
+        if ends_words(&shown[n..]) {
+            return n;
+        }
+        n += 1;
+    }
+    n
+}
+
+fn ends_words(rest: &[u8]) -> bool {
+    begins_with(rest, b" (os error ") | begins_with(rest, b"\0")
 }
 
 // Puts a text from a place within the buffer on. The place after it lies within the buffer too, so the bytes before it can be lent.

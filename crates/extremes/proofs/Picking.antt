@@ -1,5 +1,5 @@
 -- Laws of the least and the greatest of some words. A loop picks them, word by word. They decide a test that every word between two passing
--- words passes too: all words pass it exactly if these two do (`extremes-decide`).
+-- words passes too: all words pass it exactly if these two do (`extremes_decide`).
 use mathlib.Core.Path.{◌≡◌, refl, sym, ap, ◌∙◌}
 use mathlib.Core.Bool.{Bool, true, ◌&&◌}
 use mathlib.Core.List.{List, [], ◌∷◌}

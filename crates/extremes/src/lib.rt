@@ -2,11 +2,13 @@
 //
 // They decide a test that every word between two passing words passes too, such as the range of a kind or the control limits: all words
 // pass exactly if these two pass. So many words need only two tests, and a loop that only compares.
+#![tactic(auto)]
+
 ghost use Rattle.std.specs.Prelude.{◌≡◌};
 ghost use Rattle.rules.specs.Choice.{choose};
 ghost use Rattle.extremes.specs.Extremes as specs;
 
-#[derive(Drop)]
+#[derive(Clone, Copy)]
 pub struct Extremes {
     pub least: i16,
     pub greatest: i16,

@@ -13,7 +13,7 @@ use limits::{Limits, Side, beyond_control, beyond_warning, side_of_mean};
 const RUN: usize = 7;
 
 // Whether words rise strictly, and whether they fall strictly.
-#[derive(Drop)]
+#[derive(Clone, Copy)]
 pub struct Trend {
     pub rising: bool,
     pub falling: bool,

@@ -4,6 +4,8 @@
 // words. `beyond` compares a word with the limits at any m, by squares of whole numbers. `beyond_control` and `beyond_warning` do this at
 // the paper's 3 and 2. `near_mean` and `side_of_mean` compare a word with the mean. `without_word` takes a word away from sums: document
 // 02, Q-5.
+#![tactic(auto)]
+
 ghost use Rattle.std.specs.Prelude.{◌≡◌, [], ◌∷◌, ◌≤◌, ◌<◌, length, pos, nat_abs};
 ghost use Rattle.rules.specs.Sizes.{base_most};
 ghost use Rattle.rules.specs.Kind.{has_lower};
@@ -20,8 +22,8 @@ pub const WARNING: u8 = 2;
 // Lines are whole numbers of 256ths.
 pub const LINE_PARTS: usize = 256;
 
-// The number n of words, their sum T, and the sum Q of their squares. They give V = typeof.n.Q − T².
-#[derive(Drop)]
+// The number n of words, their sum T, and the sum Q of their squares. They give V = n·Q − T².
+#[derive(Clone, Copy)]
 pub struct Sums {
     pub n: u64,
     pub t: i64,
@@ -29,28 +31,28 @@ pub struct Sums {
 }
 
 // Whether a word is beyond the upper limit, and whether it is beyond the lower one.
-#[derive(Drop)]
+#[derive(Clone, Copy)]
 pub struct BeyondLimits {
     pub upper: bool,
     pub lower: bool,
 }
 
 // Whether a word, or each word of a run, is strictly above the mean, and whether it is strictly below it.
-#[derive(Drop)]
+#[derive(Clone, Copy)]
 pub struct Side {
     pub above: bool,
     pub below: bool,
 }
 
 // The two sides of the comparison of a deviation with a limit.
-#[derive(Drop)]
+#[derive(Clone, Copy)]
 struct Squares {
     deviation: u64,
     limit: u64,
 }
 
 // What a word is judged by: a chart kind, and the sums of the words that the limits are worked out from.
-#[derive(Drop)]
+#[derive(Clone, Copy)]
 pub struct Limits {
     pub kind: u16,
     pub sums: Sums,
@@ -136,7 +138,7 @@ pub fn has_lower(kind: u16) -> bool
     (kind == 2) | (kind == 3)
 }
 
-// Whether a deviation of d / n, up or down, is more than typeof.m.S.
+// Whether a deviation of d / n, up or down, is more than m·S.
 fn exceeds(m: u16, s: Sums, d: i64) -> bool
     requires { Comparable m s d }
     ensures { result ≡ rules.exceeds m (sums_say s) d }
@@ -145,7 +147,7 @@ fn exceeds(m: u16, s: Sums, d: i64) -> bool
     x.limit < x.deviation
 }
 
-// Whether a deviation of d / n, up or down, is less than typeof.m.S.
+// Whether a deviation of d / n, up or down, is less than m·S.
 fn within(m: u16, s: Sums, d: i64) -> bool
     requires { Comparable m s d }
     ensures { result ≡ rules.within m (sums_say s) d }
@@ -154,7 +156,7 @@ fn within(m: u16, s: Sums, d: i64) -> bool
     x.deviation < x.limit
 }
 
-// d²·(n − 1) and m²·n·V, which are compared in place of d / n and typeof.m.S.
+// d²·(n − 1) and m²·n·V, which are compared in place of d / n and m·S.
 fn squares_of(m: u16, s: Sums, d: i64) -> Squares
     requires { Comparable m s d }
     ensures { AreSquares m (sums_say s) d result }
@@ -175,7 +177,7 @@ fn squares_of(m: u16, s: Sums, d: i64) -> Squares
     Squares { deviation, limit }
 }
 
-// V = typeof.n.Q − T²
+// V = n·Q − T²
 pub fn v_of(s: Sums) -> u64
     requires { Bounded s }
     ensures { pos result ≡ rules.v_of (sums_say s) }

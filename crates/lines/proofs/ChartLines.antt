@@ -1,6 +1,6 @@
 -- The lines that limits give, and the lines of a chart. If the chart is sound, its lines can be worked out from the sums of its base
--- (`has-lines`). A word is beyond a line exactly if it is beyond the exact limit (`lines-compared`). The word can also be compared with the
--- limit itself (`limits-compared`). A chart that is not sound is refused.
+-- (`has_lines`). A word is beyond a line exactly if it is beyond the exact limit (`lines_compared`). The word can also be compared with the
+-- limit itself (`limits_compared`). A chart that is not sound is refused.
 use Rattle.std.proofs.Common.{◌≡◌, ℕ, ◌*◌, true, false, length, ℤ, nat_abs, ap, ◌∙◌, arith, to_z-of_z, w16, SFits, to_z, of_z}
 use lib.Ieee.{Float}
 use Rattle.rules.specs.Outcome.{given, refused}

@@ -1,4 +1,4 @@
--- A word against lines as doubles. For the lines that limits give, to compare the doubles is to compare 256·w with k (`float-beyond`).
+-- A word against lines as doubles. For the lines that limits give, to compare the doubles is to compare 256·w with k (`float_beyond_lem`).
 use Rattle.std.proofs.Common.{◌≡◌, ◌^◌, ◌≤◌, Bool, false, ℤ, nat_abs, to_z-of_z, w16, SFits, to_z, of_z}
 use lib.Ieee.{Float}
 use Rattle.rules.specs.Kind.{has_lower}

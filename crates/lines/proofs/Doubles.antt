@@ -28,4 +28,4 @@ module _ (k : ℤ) (h : SFits w64 k) (few : nat_abs k ≤ 2 ^ 34) where
 
 -- the double of a line r that is k
 pub line_is : (k r : ℤ) (x : Float) → IsParts k r → x ≡ double_of (to_z w64 (of_z w64 r)) → x ≡ double_of k
-line_is k r x p e = e ∙ ap double_of (to_z-of_z (small_fits (omega (arith, p.small))) ∙ p.same)
+line_is k r x p e = e ∙ ap double_of (to_z-of_z {w = w64} (small_fits (omega (arith, p.small))) ∙ p.same)

@@ -1,4 +1,4 @@
--- The doubles of a sound chart's lines: k is at most 2 ^ 34 in size, and the program reads exactly this k off its double (`lines-held`).
+-- The doubles of a sound chart's lines: k is at most 2 ^ 34 in size, and the program reads exactly this k off its double (`lines_held`).
 use Rattle.std.proofs.Common.{◌≡◌, ℕ, ◌-◌, ◌*◌, ◌/◌, ◌^◌, ◌<◌, ◌≤◌, true, List, length, ℤ, pos, ◌+ℤ◌, ◌-ℤ◌, ◌*ℤ◌, nat_abs, refl, ◌∙◌, mul-le-mul, div-le_self, arith, lit≤}
 use Rattle.rules.specs.Sizes.{line_parts, base_most}
 use Rattle.rules.specs.Kind.{has_lower}
@@ -18,7 +18,6 @@ use Rattle.rules.proofs.SquareRoot.{root_is}
 use Rattle.rules.proofs.Soundness.{sound_facts}
 use Rattle.rules.proofs.Double.{parts_of_double}
 use Rattle.limits.specs.declared.Sums.{Sums}
-use Rattle.limits.specs.declared.Limits.{Limits}
 use Rattle.limits.specs.Sums.{sums_say, Bounded}
 use Rattle.limits.proofs.Spread.{v_is}
 use Rattle.limits.proofs.Summing.{are_sums}

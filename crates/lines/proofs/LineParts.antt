@@ -23,12 +23,12 @@ module _ (s : Sums) (b : Bounded s) where
 -- a line k of at most 2^34 parts, as the program holds it
 are_parts : (k r : ℤ) → r ≡ k → nat_abs k ≤ 2 ^ 34 → IsParts k (to_z w64 (of_z w64 r))
 are_parts k r e h =
-    let own : to_z w64 (of_z w64 r) ≡ k = ap (λ (z : ℤ). to_z w64 (of_z w64 z)) e ∙ to_z-of_z (small_fits (omega arith)) in
+    let own : to_z w64 (of_z w64 r) ≡ k = ap (λ (z : ℤ). to_z w64 (of_z w64 z)) e ∙ to_z-of_z {w = w64} (small_fits (omega arith)) in
     record { same = own; small = omega (arith, ap nat_abs own) }
 
 module _ (s : Sums) (b : Bounded s) (t : ℤ) (e : t ≡ pos line_parts *ℤ s.t) where
   held_sum_lem : to_z w64 (of_z w64 t) ≡ pos line_parts *ℤ s.t
-  held_sum_lem = ap (λ (z : ℤ). to_z w64 (of_z w64 z)) e ∙ to_z-of_z (small_fits (omega (arith, parts_small s b)))
+  held_sum_lem = ap (λ (z : ℤ). to_z w64 (of_z w64 z)) e ∙ to_z-of_z {w = w64} (small_fits (omega (arith, parts_small s b)))
 
   -- the mean: 256·T / n
   pub mean_parts : (r : ℤ) → r ≡ quotient_down (to_z w64 (of_z w64 t)) s.n → IsParts (mean_line (sums_say s)) (to_z w64 (of_z w64 r))

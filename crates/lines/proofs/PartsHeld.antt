@@ -1,4 +1,4 @@
--- 256 · x as a double. Below 2 ^ 63 in size it is exact, so its whole part toward 0 is the k that is read off x (`held-between`).
+-- 256 · x as a double. Below 2 ^ 63 in size it is exact, so its whole part toward 0 is the k that is read off x (`held_between`).
 -- If it is 2 ^ 63 or more in size, or not finite, a comparison of doubles shows this (`held_low`, `held_high`).
 use Rattle.std.proofs.Common.{◌≡◌, ℕ, zero, suc, ◌+◌, ◌-◌, ◌*◌, ◌/◌, ◌%◌, ◌^◌, ◌<◌, ◌≤◌, Bool, true, false, cond, ◌&&◌, ◌||◌, T, eqb, ltb, leb, ℤ, pos, negsuc, neg_ℤ, nat_abs, sym, refl, ap, ◌∙◌, subst, true≢false, le_of_eq, lt_of_lt_of_le, le_of_lt, mul_assoc, div-lt_iff_lt-mul, add_comm, lt_of_mul-lt-mul_right, mul-lt-mul_of_pos_right, le-div_iff_mul-le, zero-mul, mul-one, mul_right_comm, not-le_of_lt, arith, lit<, lit≤, eqb→eq, ltb→lt, leb→le, pow-add, to_z-of_z, w64, SFits, to_z, of_z, ltb-true, le-ltb, lt-ltb}
 use native.Mathlib.Nat.{min-eq_left}

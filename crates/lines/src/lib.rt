@@ -7,6 +7,8 @@
 // There are two ways to compare a word with a chart's lines. They are proved to give the same answer. `against_lines` works out the doubles
 // and compares the word with them, as a plotter does. So its proof shows that the lines judge as the limits do. `against_lines_sound`
 // compares the word with the exact limits. It needs no square root and no double, and serves a caller that needs only the answer.
+#![tactic(auto)]
+
 mod parts;
 
 ghost use Rattle.std.specs.Prelude.{◌≡◌, ◌^◌, ◌≤◌, true, unsigned_abs};
@@ -23,7 +25,7 @@ use chart::Chart;
 use limits::{CONTROL, Limits, WARNING, beyond, has_lower, limits_of};
 use parts::{deviation_parts, lower_parts, mean_parts, upper_parts};
 
-#[derive(Drop)]
+#[derive(Clone, Copy)]
 pub struct TwoSidedLines {
     pub mean: f64,
     pub lower_warning: f64,
@@ -32,7 +34,7 @@ pub struct TwoSidedLines {
     pub upper_control: f64,
 }
 
-#[derive(Drop)]
+#[derive(Clone, Copy)]
 pub enum Lines {
     // Kind 1. Its lower line, always 0.0, is not carried.
     Duplicate {
@@ -43,14 +45,14 @@ pub enum Lines {
     TwoSided(TwoSidedLines),
 }
 
-#[derive(Drop)]
+#[derive(Clone, Copy)]
 pub enum LinesAnswer {
     Done(Lines),
     Refused(u16),
 }
 
 // Whether a word is beyond each limit. Kind 1 has no lower limits, so no word is beyond them.
-#[derive(Drop)]
+#[derive(Clone, Copy)]
 pub struct BeyondEach {
     pub lower_warning: bool,
     pub upper_warning: bool,
@@ -58,7 +60,7 @@ pub struct BeyondEach {
     pub upper_control: bool,
 }
 
-#[derive(Drop)]
+#[derive(Clone, Copy)]
 pub enum AgainstAnswer {
     Done(BeyondEach),
     Refused(u16),

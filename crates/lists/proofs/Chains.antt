@@ -1,6 +1,6 @@
 -- Demand 3 over any chain of calls of the methods. The results of building or reading, of each call and of lines meet their contracts,
 -- in the form in which these are read off the source (`Reads.Post`). A call takes the chart that the call before it gave back. The first
--- chart comes from building (`claim-from-words`) or reading (`claim-from-bytes`), and lines are asked of the last chart. Then the claim
+-- chart comes from building (`claim_from_words`) or reading (`claim_from_bytes`), and lines are asked of the last chart. Then the claim
 -- holds for the whole list.
 use mathlib.Core.Path.{◌≡◌, refl, sym, ap, ◌∙◌}
 use mathlib.Core.List.{List, [], ◌∷◌}
@@ -13,7 +13,6 @@ use Rattle.rules.specs.Sizes.{base_wanted, base_least}
 use Rattle.rules.specs.State.{State}
 use Rattle.rules.specs.Building.{BuiltState, building}
 use Rattle.rules.specs.ReadForm.{reading}
-use Rattle.rules.specs.ReadForm as read
 use Rattle.rules.specs.Lists.{start_of_building, words_start, bytes_start}
 use Rattle.rules.specs.Machine.{Call, post, reanalysis, correction, renewal, Answer}
 use Rattle.rules.proofs.Floor.{Starts}

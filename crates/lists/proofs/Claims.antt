@@ -1,4 +1,4 @@
--- The claim of demand 3 for the result of a run of calls (`claim-of-run`). The machine's run is the chart's, and a sound state stays sound.
+-- The claim of demand 3 for the result of a run of calls (`claim_of_run`). The machine's run is the chart's, and a sound state stays sound.
 -- The base of a sound state has enough words to give the paper's lines.
 use mathlib.Core.Path.{◌≡◌, ap, ◌∙◌}
 use mathlib.Core.Bool.{true}

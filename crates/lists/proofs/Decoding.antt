@@ -1,5 +1,5 @@
--- Laws of the calls in a list of numbers: one call at a time (`are-calls-next`, `calls-next`, `call-read`), the end of the list
--- (`are-calls-short`, `are-calls-end`), how many calls there are (`count-is`), the room for their answers (`room-is`), and a number as a
+-- Laws of the calls in a list of numbers: one call at a time (`are_calls_next`, `calls_next`, `call_read`), the end of the list
+-- (`are_calls_short`, `are_calls_end`), how many calls there are (`count_is`), the room for their answers (`room_is`), and a number as a
 -- kind and as the number of a call.
 use mathlib.Core.Path.{◌≡◌, refl, sym, ap, ◌∙◌}
 use mathlib.Core.Bool.{Bool, true, false, ◌&&◌, false≢true}

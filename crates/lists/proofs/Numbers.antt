@@ -1,4 +1,4 @@
--- Laws of answers as numbers: the three numbers of an answer (`three-are`), and these numbers put into a buffer.
+-- Laws of answers as numbers: the three numbers of an answer (`three_are`), and these numbers put into a buffer.
 use mathlib.Core.Path.{◌≡◌, refl}
 use mathlib.Core.List.{[], ◌∷◌, List}
 use Prim.Native.Nat.{ℕ, ◌+◌, ◌≤◌}

@@ -1,5 +1,5 @@
--- What running a list gives. Nothing is run (`nothing_run`, `without-calls`, `without-room`, `without-start`), or the calls are run
--- (`with_all`). If the program's start is the machine's, the claim holds (`runs-list`).
+-- What running a list gives. Nothing is run (`nothing_run`, `without_calls`, `without_room`, `without_start`), or the calls are run
+-- (`with_all`). If the program's start is the machine's, the claim holds (`runs_list`).
 use mathlib.Core.Path.{◌≡◌, refl, ◌∙◌}
 use mathlib.Core.Bool.{Bool, true, false, false≢true}
 use mathlib.Core.List.{List}
@@ -12,7 +12,6 @@ use Rattle.rules.specs.Outcome.{Outcome, given, refused}
 use Rattle.rules.specs.Choice.{require}
 use Rattle.rules.specs.Kind.{is_kind}
 use Rattle.rules.specs.State.{State}
-use Rattle.rules.specs.Lists as rules
 use Rattle.rules.proofs.Booleans.{by_test}
 use Rattle.rules.proofs.Soundness.{sound_facts}
 use Rattle.rules.proofs.Floor.{Starts}

@@ -1,4 +1,4 @@
--- Laws of the start of a list that is built of words, as a chart in hand. Building never refuses with 0 (`building-number`), so the
+-- Laws of the start of a list that is built of words, as a chart in hand. Building never refuses with 0 (`building_number`), so the
 -- number 0 means that there is a start.
 use mathlib.Core.Path.{◌≡◌, sym, ap, ◌∙◌}
 use mathlib.Core.List.{List}
@@ -6,7 +6,6 @@ use Prim.Native.Nat.{ℕ, ◌≤◌}
 use native.Mathlib.Omega.{arith}
 use lib.IntN.{ℤ}
 use Rattle.rules.specs.Outcome.{refused}
-use Rattle.rules.specs.Building.{building}
 use Rattle.rules.specs.Lists.{start_of_building, words_start}
 use Rattle.rules.proofs.Building.{building_ind}
 use Rattle.rules.proofs.Outcome.{given_not_refused}

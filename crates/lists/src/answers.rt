@@ -11,7 +11,7 @@ use chart::{CorrectionAnswer, PostAnswer, ReanalysisAnswer, RenewalAnswer};
 // How many numbers an answer has.
 pub const ANSWER_SIZE: usize = 3;
 
-#[derive(Drop)]
+#[derive(Clone, Copy)]
 pub struct Said {
     // The number of the call, or 0 for a refusal.
     pub number: i64,

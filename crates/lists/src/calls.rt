@@ -12,7 +12,7 @@ use chart::Chart;
 pub const CALL_SIZE: usize = 5;
 
 // What a call gave: the chart that it gave back, and its answer.
-#[derive(Drop)]
+#[derive(Clone, Copy)]
 pub struct Called {
     pub chart: Chart,
     pub said: Said,

@@ -8,6 +8,8 @@
 //
 // A list is refused in three cases, in this order: the numbers are not a list; the buffer has no room for all answers; building or reading
 // refuses the start. Then nothing is run: the buffer does not change, and the chart is the chart of zeros, which has no lines.
+#![tactic(auto)]
+
 mod answers;
 mod calls;
 
@@ -23,7 +25,7 @@ use chart::{BuildAnswer, Chart, zero_chart};
 use lines::{LinesAnswer, lines_of};
 use store::held::{Held, held_in};
 
-#[derive(Drop)]
+#[derive(Clone, Copy)]
 pub enum RunAnswer {
     // The list was run, and its answers stand in the buffer.
     Done,
@@ -35,7 +37,7 @@ pub enum RunAnswer {
     NoRoom,
 }
 
-#[derive(Drop)]
+#[derive(Clone, Copy)]
 pub struct Run {
     pub chart: Chart,
     pub answer: RunAnswer,

@@ -1,6 +1,6 @@
--- Laws of what a command on a file comes to: a fault (`ends-in-fault`), a chart that was written (`ends-written`), a chart whose writing
--- was refused (`ends-declined`). Laws of what a command starts from: `start-taken`, `start-declined`, `start-without`, `start-with`. The
--- lengths of the form and of the text: `and-counted`.
+-- Laws of what a command on a file comes to: a fault (`ends_in_fault`), a chart that was written (`ends_written`), a chart whose writing
+-- was refused (`ends-declined`). Laws of what a command starts from: `start_taken`, `start_declined`, `start_without`, `start_with`. The
+-- lengths of the form and of the text: `and_counted`.
 use mathlib.Core.Path.{◌≡◌, refl, sym, ap, ◌∙◌}
 use mathlib.Core.Bool.{Bool, true, false}
 use mathlib.Core.List.{List, []}
@@ -10,10 +10,8 @@ use lib.ListN.{length, take}
 use lib.Seq.{length-take-le}
 use lib.Dec.{eqb, leb, lit≤}
 use Rattle.rules.specs.Outcome.{given, refused}
-use Rattle.rules.specs.Outcome as rules
 use Rattle.rules.specs.Choice.{require}
 use Rattle.rules.specs.StoredForm.{stored_form, form_fits, writing, buffer_after}
-use Rattle.rules.specs.Buffer.{Placed}
 use Rattle.rules.proofs.Choice.{choose_ind}
 use Rattle.rules.proofs.Buffer.{placed_none, front_fits, front_counted}
 use Rattle.rules.specs.ReadForm.{reading}
@@ -21,7 +19,6 @@ use Rattle.rules.proofs.Booleans.{zero_not_one}
 use Rattle.chart.specs.declared.Chart.{Chart}
 use Rattle.chart.specs.Chart.{state_of, chart_of}
 use Rattle.chart.specs.Soundness.{sound_chart}
-use Rattle.printing.specs.Output.{Puts}
 use Rattle.printing.proofs.Putting.{puts_within, puts_room}
 use Rattle.store.specs.declared.WriteAnswer.TheVariants.{Done, Refused}
 use Rattle.store.specs.declared.ReadAnswer.TheVariants as read
@@ -113,10 +110,10 @@ module _ (c : Chart) (held line : List ℕ) {out out' : List ℕ} (a : Answered)
         whole = in_full;
       })
 
-  pub ends_declined : {before after : List ℕ} (n : ℕ) (o : Outcome) → Writes a.chart before after (Refused n) → o ≡ not_written n
+  pub ends-declined : {before after : List ℕ} (n : ℕ) (o : Outcome) → Writes a.chart before after (Refused n) → o ≡ not_written n
       → Ends (ending (on_chart c held) line (length before)) before after out out' (record { outcome = o; form = 0; size = a.size })
   unfolding write_says answer_to_write writing form_fits buffer_after_write buffer_after not_written
-  ends_declined {before} {after} n o w decided =
+  ends-declined {before} {after} n o w decided =
       let text = answer_to_line c (line_in line) in
       declined_by (sound_chart a.chart) (form_fits (state_of a.chart) before) (length (stored_form (state_of a.chart))) n w.says _
       (λ unsound e.

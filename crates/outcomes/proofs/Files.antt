@@ -1,9 +1,9 @@
--- A command on a file loses no chart. The new bytes of a changed file are the stored form of the chart after the command (`kept-form`), and
+-- A command on a file loses no chart. The new bytes of a changed file are the stored form of the chart after the command (`kept_form`), and
 -- reading them gives that chart (`kept_read`). A file that does not change holds that form already, if that chart is sound
--- (`nothing-lost`). A command that may not change the chart never changes the file, so it needs no lock (`only-read`). A buffer as
--- long as the longest form has room for every form (`room-enough`).
+-- (`nothing_lost`). A command that may not change the chart never changes the file, so it needs no lock (`only_read`). A buffer as
+-- long as the longest form has room for every form (`room_enough`).
 use mathlib.Core.Path.{◌≡◌, refl, sym, ap, ◌∙◌}
-use mathlib.Core.Bool.{Bool, true, false, false≢true}
+use mathlib.Core.Bool.{true, false, false≢true}
 use mathlib.Core.List.{List, []}
 use Prim.Native.Nat.{ℕ, ◌≤◌}
 use native.Mathlib.Omega.{arith}
@@ -25,14 +25,13 @@ use Rattle.chart.proofs.SoundCharts.{sound_chart_facts}
 use Rattle.chart.proofs.State.{state_of_chart}
 use Rattle.parsing.specs.Bytes.{same_bytes}
 use Rattle.parsing.proofs.Tests.{same_equal, same_itself}
-use Rattle.commands.specs.Command.{line_in, is_build}
-use Rattle.commands.specs.Reply.{chart_after_line}
+use Rattle.commands.specs.Command.{is_build}
 use Rattle.store.specs.Store.{form_most}
 use Rattle.store.proofs.Writing.{form_within}
 use Rattle.outcomes.specs.declared.Outcome.{Outcome}
 use Rattle.outcomes.specs.declared.Outcome.TheVariants as outcome
 use Rattle.outcomes.specs.Naming.{has_command, may_change}
-use Rattle.outcomes.specs.OnFile.{Held, no_file, bytes, Start, on_chart, fault, start_read, start_from, start_of}
+use Rattle.outcomes.specs.OnFile.{Held, no_file, bytes, start_read, start_from, start_of}
 use Rattle.outcomes.specs.OnFile.{of_form, Ending, keeping, ending}
 use Rattle.outcomes.proofs.Named.{only_reads, builds}
 

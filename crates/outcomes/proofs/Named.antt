@@ -1,6 +1,6 @@
--- Laws of the name in a line. A line without a command is passed over, unless it is too long (`no-command`). A command that may not change
--- the chart leaves it as it is (`only-reads`). `build` may change it (`builds`). The other laws are about the functions of `names`: about
--- the first field (`no_field`, `a-field`), and about the names in the last arm of a match (`some-name`).
+-- Laws of the name in a line. A line without a command is passed over, unless it is too long (`no_command_lem`). A command that may not change
+-- the chart leaves it as it is (`only_reads`). `build` may change it (`builds`). The other laws are about the functions of `names`: about
+-- the first field (`no_field`, `a_field`), and about the names in the last arm of a match (`some_name`).
 use mathlib.Core.Path.{◌≡◌, refl, ap}
 use mathlib.Core.Bool.{true, false, not}
 use mathlib.Core.List.{List, [], ◌∷◌}
@@ -9,8 +9,6 @@ use native.Mathlib.Omega.{arith}
 use borrow.Author.Tests.{le-leb, not-false}
 use lib.ListN.{length, get_or}
 use lib.Dec.{eqb, leb}
-use denote.Enum.Declared.{tag_of}
-use types.Run.{OneOf, miss}
 use Rattle.rules.proofs.Choice.{choose_ind, require_ind}
 use Rattle.chart.specs.declared.Chart.{Chart}
 use Rattle.parsing.specs.Bytes.{same_bytes}
@@ -23,7 +21,6 @@ use Rattle.commands.specs.declared.faults.Finding.TheVariants as finding
 use Rattle.commands.specs.declared.names.Change.TheVariants as change
 use Rattle.commands.specs.declared.names.Name.{Name}
 use Rattle.commands.specs.declared.names.Name.TheVariants as name
-use Rattle.commands.specs.contracts.names.Name.{the_type}
 use Rattle.commands.specs.Command.{Line, passed_over, faulty, line_most, is_comment, first_field, name_in, fault_for, command_for}
 use Rattle.commands.specs.Command.{unless_faulty, named_line, line_of, line_in, is_build}
 use Rattle.commands.specs.Reply.{chart_after_line}
@@ -92,11 +89,7 @@ module _ {text : List ℕ} {start end : ℕ} (field : IsFirstField text start en
       let some : start < end = omega (arith, field.ordered) in
       rw (one_found field some, comment_found field some)
 
--- the names that the arm `_` of a match covers, by their numbers in the enum
-abbrev command_names : List ℕ
-command_names = 0 ∷ 1 ∷ []
-
-pub some_name : (n : Name) → OneOf command_names (tag_of the_type n) → true ≡ is_command_name n
-some_name (name.Changes change) keys = refl
-some_name (name.Asks inquiry) keys = refl
-some_name name.Other keys = absurd (miss command_names 2 tt keys)
+pub some_name : (n : Name) → (n ≡ name.Other → ⊥) → true ≡ is_command_name n
+some_name (name.Changes change) other = refl
+some_name (name.Asks inquiry) other = refl
+some_name name.Other other = absurd (other refl)

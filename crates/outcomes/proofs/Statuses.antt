@@ -1,6 +1,6 @@
--- The exit status found in the text of an answer is that of the command's result, for every chart and every line (`status-of-line`). It is
--- 3 for a fault (`status-fault`), 2 for a refusal (`status-refused`), 1 for a verdict other than 0 and for a failed reanalysis
--- (`status-judged`, `status-reanalysed`), and 0 for everything else.
+-- The exit status found in the text of an answer is that of the command's result, for every chart and every line (`status_of_line`). It is
+-- 3 for a fault (`status_fault`), 2 for a refusal (`status_refused`), 1 for a verdict other than 0 and for a failed reanalysis
+-- (`status_judged`, `status_reanalysed`), and 0 for everything else.
 use mathlib.Core.Path.{◌≡◌, refl, ap, ◌∙◌}
 use mathlib.Core.Bool.{Bool, true, false}
 use mathlib.Core.List.{List, [], ◌∷◌, ◌++◌, append_assoc}

@@ -9,7 +9,7 @@ abbrev pub is_command : List (List ℕ) → Bool
 is_command [] = false
 is_command (first ∷ fields) = not (is_comment first)
 
--- the line has a command. A line without one is passed over, unless it is too long (`no-command` in `proofs/Named`)
+-- the line has a command. A line without one is passed over, unless it is too long (`no_command_lem` in `proofs/Named`)
 unfoldable pub has_command : List ℕ → Bool
 has_command line = is_command (fields_of line)
 
@@ -17,7 +17,7 @@ has_command line = is_command (fields_of line)
 unfoldable pub name_of : List ℕ → Name
 name_of line = name_in (first_field (fields_of line))
 
--- the commands that may change the chart; the others leave it as it is (`only-reads` in `proofs/Named`)
+-- the commands that may change the chart; the others leave it as it is (`only_reads` in `proofs/Named`)
 abbrev pub changes : Name → Bool
 changes (name.Changes c) = true
 changes (name.Asks q) = false

@@ -2,11 +2,10 @@
 -- `proofs/Statuses` proves that it is the status of the command's result (`status_to`), for every chart and every line.
 use Rattle.std.specs.Prelude.{Bool, ◌&&◌, ◌||◌, List, [], ◌∷◌, ◌++◌, ℕ, eqb}
 use Rattle.rules.specs.Outcome.{Outcome, given}
-use Rattle.rules.specs.State.{State}
 use Rattle.rules.specs.Outcome as outcome
 use Rattle.rules.specs.Choice.{require, choose}
 use Rattle.rules.specs.Word.{word_alone}
-use Rattle.rules.specs.Building.{BuiltState, building}
+use Rattle.rules.specs.Building.{building}
 use Rattle.rules.specs.Machine.{Answer, judged, reanalysed, corrected, renewed, refused}
 use Rattle.rules.specs.Machine as machine
 use Rattle.rules.specs.ReadForm.{reading}

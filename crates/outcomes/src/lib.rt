@@ -1,5 +1,7 @@
 // What a command on the chart in a file comes to. The file's bytes and the command's line give the text to say, and the file's new bytes if
 // it changes. The program that reads and writes the file only moves these bytes. The exit status of an answer is here too.
+#![tactic(auto)]
+
 pub mod names;
 pub mod status;
 
@@ -15,7 +17,7 @@ use parsing::fields::same_bytes;
 use printing::put_text;
 use store::{ReadAnswer, WriteAnswer};
 
-#[derive(Drop)]
+#[derive(Clone, Copy)]
 pub enum Outcome {
     // The command is answered, and the file stays as it is.
     Answered,
@@ -27,7 +29,7 @@ pub enum Outcome {
     NoRoom,
 }
 
-#[derive(Drop)]
+#[derive(Clone, Copy)]
 pub struct OnFile {
     pub outcome: Outcome,
     // The lengths of the form and of the text, at the front of the lent buffers.
@@ -44,8 +46,8 @@ const NO_FILE: u16 = 2;
 // and of `ANSWER_MOST` bytes have room for every form and every text.
 pub fn on_file(there: bool, held: &[u8], line: &[u8], form: &mut [u8], out: &mut [u8]) -> OnFile
     ensures ends { Ends (ending (start_of (held_in there held.now) line.now) line.now (length form.old)) form.old form.new out.old out.new result }
-    ensures counts { Counts result.form form.new }
-    ensures counts_2 { Counts result.size out.new }
+    ensures form_counted { Counts result.form form.new }
+    ensures text_counted { Counts result.size out.new }
 {
     if !has_command(line) {
         return fault(NO_COMMAND, out);

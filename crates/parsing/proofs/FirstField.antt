@@ -1,5 +1,5 @@
--- The first field of a text: blanks before it do not count (`fields-after-blanks`), and a run of other bytes that ends at a blank or
--- with the text is a field (`fields-of-run`). Joined, they are `first_field`.
+-- The first field of a text: blanks before it do not count (`fields_after_blanks`), and a run of other bytes that ends at a blank or
+-- with the text is a field (`fields_of_run`). Joined, they are `first_field`.
 use mathlib.Core.Path.{◌≡◌, refl, sym, ap, ◌∙◌}
 use mathlib.Core.Bool.{true, false, false≢true}
 use mathlib.Core.List.{List, [], ◌∷◌}

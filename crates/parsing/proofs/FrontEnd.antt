@@ -1,6 +1,6 @@
--- Laws of the front and the end of a text: a text that is too short (`begins-short`, `ends-short`), a text that is long enough because it
--- begins so (`begins-length`), the end of two texts joined (`ends-joined`, `ends-behind`, `ends-unlike`). Laws of a line without a mark
--- (`with-mark`, `no-mark`, `without-mark-length`).
+-- Laws of the front and the end of a text: a text that is too short (`begins_short`, `ends_short`), a text that is long enough because it
+-- begins so (`begins-length`), the end of two texts joined (`ends_joined`, `ends_behind`, `ends_unlike`). Laws of a line without a mark
+-- (`with_mark`, `no_mark`, `without_mark-length`).
 use mathlib.Core.Path.{◌≡◌, refl, sym, ap, ◌∙◌}
 use mathlib.Core.Bool.{true, false, false≢true}
 use mathlib.Core.List.{List, ◌++◌}

@@ -1,4 +1,4 @@
--- What a hex digit stands for, by its range (`of-digit`, `of-lower`, `of-upper`, `of_other`), and the bytes of hex digits put into a buffer
+-- What a hex digit stands for, by its range (`of_digit`, `of_lower`, `of_upper`, `of_other`), and the bytes of hex digits put into a buffer
 -- one after the other (`BytesPut`).
 use mathlib.Core.Path.{◌≡◌, refl, sym, ◌∙◌}
 use mathlib.Core.Bool.{true, false}

@@ -1,4 +1,4 @@
--- Laws of a carriage return at the end of a line: the line is empty (`no_bytes`), the carriage return is left out (`return-left-out`), or
+-- Laws of a carriage return at the end of a line: the line is empty (`no_bytes`), the carriage return is left out (`return_left_out`), or
 -- there is none (`no_return`).
 use mathlib.Core.Path.{◌≡◌, refl, sym, ap, ◌∙◌}
 use mathlib.Core.Bool.{true, false}

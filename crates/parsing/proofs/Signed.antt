@@ -1,9 +1,8 @@
--- Numbers with a sign: what the program makes of a sign and a natural number (`too_large` to `negative`), how it reads the first byte of a
--- field (`no_byte`, `minus-sign`, `no_sign`), and numbers of low..high (`IsWithin`).
+-- Numbers with a sign: what the program makes of a sign and a natural number (`too_large_lem` to `negative`), how it reads the first byte of a
+-- field (`no_byte`, `minus_sign`, `no_sign`), and numbers of low..high (`IsWithin`).
 use mathlib.Core.Path.{◌≡◌, refl, ap}
-use mathlib.Core.Bool.{Bool, true, false, ◌&&◌, not, false≢true}
+use mathlib.Core.Bool.{Bool, true, false, ◌&&◌, false≢true}
 use mathlib.Core.List.{List, [], ◌∷◌}
-use mathlib.Core.Logic.{⊎_elim}
 use Prim.Native.Nat.{ℕ, zero, suc, ◌-◌, ◌<◌, ◌≤◌, ◌^◌}
 use native.Mathlib.Omega.{arith}
 use lib.ListN.{length, take, drop, get_or}
@@ -11,42 +10,39 @@ use lib.Seq.{take_all}
 use lib.Dec.{T}
 use lib.IntN.{ℤ, pos, negsuc, nat_abs}
 use lib.Signed.{le_z, non_neg, mag}
-use denote.Enum.Declared.{tag_of}
-use types.Run.{OneOf}
 use mir.Syntax.{w16, w64}
 use mir.Val.{Fits, SFits, to_z, of_z}
 use mir.Facts.{to_z-of_z, to_z-neg}
-use borrow.Author.Tests.{leb-true, le-leb, lt-leb, lt-ltb, le-ltb, eq-eqb, ne_eqb, not-true, not-false}
+use borrow.Author.Tests.{leb-true, le-leb, lt-leb, lt-ltb, le-ltb, eq-eqb, ne_eqb}
 use Rattle.rules.proofs.Booleans.{both}
 use Rattle.rules.proofs.Choice.{require_ind}
 use Rattle.parsing.specs.declared.numbers.Number.{Number}
 use Rattle.parsing.specs.declared.numbers.Number.TheVariants as number
-use Rattle.parsing.specs.contracts.numbers.Number.{the_type}
 use Rattle.parsing.specs.Number.{FieldNumber, no_number, beyond, whole, signed_value, digits_number, number_in_field, number_says}
 use Rattle.parsing.specs.Number.{number_within}
 
 -- ---- a natural number and its sign
 
 module _ (sign : Bool) (n : ℕ) where
-  pub too_large_lem : not sign ≡ true → 2 ^ 63 ≤ n → beyond ≡ signed_value sign n
-  too_large_lem t h = rw (not-true sign t, le-ltb n (2 ^ 63) h)
+  pub too_large_lem : sign ≡ false → 2 ^ 63 ≤ n → beyond ≡ signed_value sign n
+  too_large_lem t h = rw (t, le-ltb n (2 ^ 63) h)
 
-  pub not_negative : not sign ≡ true → n < 2 ^ 63 → whole (to_z w64 n) ≡ signed_value sign n
-  not_negative t h = rw (not-true sign t, lt-ltb n (2 ^ 63) h)
+  pub not_negative : sign ≡ false → n < 2 ^ 63 → whole (to_z w64 n) ≡ signed_value sign n
+  not_negative t h = rw (t, lt-ltb n (2 ^ 63) h)
 
-  pub too_small : not sign ≡ false → 2 ^ 63 < n → beyond ≡ signed_value sign n
-  too_small t h = rw (not-false sign t, lt-leb n (2 ^ 63) h)
+  pub too_small : sign ≡ true → 2 ^ 63 < n → beyond ≡ signed_value sign n
+  too_small t h = rw (t, lt-leb n (2 ^ 63) h)
 
-  pub negative_zero : not sign ≡ false → n ≡ 0 → whole (pos 0) ≡ signed_value sign n
-  negative_zero t e = rw (not-false sign t, e)
+  pub negative_zero : sign ≡ true → n ≡ 0 → whole (pos 0) ≡ signed_value sign n
+  negative_zero t e = rw (t, e)
 
 -- the complement of the bits of n − 1 is −n
-pub negative : (sign : Bool) (n : ℕ) → not sign ≡ false → n ≤ 2 ^ 63 → (n ≡ 0 → ⊥)
+pub negative : (sign : Bool) (n : ℕ) → sign ≡ true → n ≤ 2 ^ 63 → (n ≡ 0 → ⊥)
     → whole (to_z w64 (18446744073709551615 - (n - 1))) ≡ signed_value sign n
 negative sign zero t h some = absurd (some refl)
 negative sign (suc n) t h some =
     let bits : 18446744073709551615 - (suc n - 1) ≡ 2 ^ 64 - suc n = omega arith in
-    rw (not-false sign t, le-leb (suc n) (2 ^ 63) h, bits) (ap whole (to_z-neg w64 n (omega arith)))
+    rw (t, le-leb (suc n) (2 ^ 63) h, bits) (ap whole (to_z-neg w64 n (omega arith)))
 
 -- ---- the first byte of a field
 
@@ -70,12 +66,12 @@ no_sign (b ∷ text) some ne = rw (ne_eqb b 45 ne)
 -- ---- the cases of the program's number
 
 -- f has one value for no number and for a number that does not fit signed 64 bits
-pub not_whole : {X : Type 0} (f : FieldNumber → X) (n : Number) → OneOf (0 ∷ 1 ∷ []) (tag_of the_type n) → f no_number ≡ f beyond
+pub not_whole : {X : Type 0} (f : FieldNumber → X) (n : Number) → ((z : ℤ) → n ≡ number.Whole z → ⊥) → f no_number ≡ f beyond
     → f no_number ≡ f (number_says n)
 unfolding number_says
-not_whole f number.NoNumber keys e = refl
-not_whole f number.Beyond keys e = e
-not_whole f (number.Whole z) keys e = absurd (⊎_elim (λ (h : 2 ≡ 0). omega arith) (λ (h : 2 ≡ 1). omega arith) keys)
+not_whole f number.NoNumber other e = refl
+not_whole f number.Beyond other e = e
+not_whole f (number.Whole z) other e = absurd (other z refl)
 
 -- a number that fits signed 64 bits, as the program holds it
 pub record IsWhole (n : Number) (z : ℤ) : Type 0 where
@@ -84,7 +80,7 @@ pub record IsWhole (n : Number) (z : ℤ) : Type 0 where
 
 pub is_whole : {n : Number} {z : ℤ} → n ≡ number.Whole z → mag z < 2 ^ 63 → IsWhole n z
 unfolding number_says
-is_whole e small = record { says = ap number_says e; held = to_z-of_z (record { sfits = small }) }
+is_whole e small = record { says = ap number_says e; held = to_z-of_z {w = w64} (record { sfits = small }) }
 
 -- ---- a number of low..high
 
@@ -111,3 +107,9 @@ casts_kind (negsuc n) is = absurd (false≢true is.least)
 pub fits_word : (z : ℤ) → IsWithin (negsuc 32767) (pos 32767) z → SFits w16 z
 fits_word (pos n) is = let most = leb-true n 32767 is.most in record { sfits = omega arith }
 fits_word (negsuc n) is = let least = leb-true n 32767 is.least in record { sfits = omega arith }
+
+-- whether a number that fits signed 64 bits is one of low..high, as the program tests it
+pub tested_within : {low high z : ℤ} {b : Bool} → SFits w64 low → SFits w64 high → to_z w64 (of_z w64 z) ≡ z
+    → (le_z (to_z w64 (of_z w64 low)) (to_z w64 (of_z w64 z)) && le_z (to_z w64 (of_z w64 z)) (to_z w64 (of_z w64 high))) ≡ b
+    → (le_z low z && le_z z high) ≡ b
+tested_within low_fits high_fits held t = rw (to_z-of_z low_fits, to_z-of_z high_fits, held) at t

@@ -1,5 +1,5 @@
 -- The number that digits denote, counted no further than 2^63 + 1 (`Counted`). Neither this number nor a larger one fits signed 64 bits,
--- with either sign, so nothing is lost (`signed-counted`).
+-- with either sign, so nothing is lost (`signed_counted`).
 use mathlib.Core.Path.{◌≡◌, refl, sym, ap, ◌∙◌}
 use mathlib.Core.Bool.{Bool, true, false}
 use mathlib.Core.List.{List, [], ◌∷◌}

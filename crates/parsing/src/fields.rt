@@ -4,7 +4,7 @@ ghost use Rattle.parsing.specs.Bytes.{same_bytes};
 ghost use Rattle.parsing.specs.Fields.{is_blank, IsFirstField, AfterBlanks, AfterField, IsWithoutReturn};
 
 // The place of a field: its first byte, and the byte after its last.
-#[derive(Drop)]
+#[derive(Clone, Copy)]
 pub struct Field {
     pub start: usize,
     pub end: usize,
@@ -34,6 +34,7 @@ pub fn without_return(line: &[u8]) -> usize
     n
 }
 
+#[tactic(auto, using(crate::proofs::Tests::same_fails))]
 pub fn same_bytes(a: &[u8], b: &[u8]) -> bool
     ensures { result ≡ same_bytes a.now b.now }
 {

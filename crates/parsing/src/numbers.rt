@@ -9,7 +9,7 @@ const SIGN_BIT: u64 = 9223372036854775808;
 const VALUE_MOST: u64 = 9223372036854775809;
 
 // What a field holds.
-#[derive(Drop)]
+#[derive(Clone, Copy)]
 pub enum Number {
     NoNumber,
     // A number that does not fit signed 64 bits.

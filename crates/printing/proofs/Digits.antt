@@ -1,6 +1,6 @@
--- Laws of numbers as text. The digits of n are those of n / 10, then n % 10 (`decimal-small`, `decimal-more`), and they denote n
--- (`decimal-exact`). Eight decimals hold every number of 256ths (`parts-exact`, `parts-say`). How long each text can be (`decimal-length`,
--- `signed-length`, `spaced-words-length`, `last-digits-length`, `parts-length`).
+-- Laws of numbers as text. The digits of n are those of n / 10, then n % 10 (`decimal_small`, `decimal_more`), and they denote n
+-- (`decimal_exact`). Eight decimals hold every number of 256ths (`parts_exact`, `parts_say`). How long each text can be (`decimal-length`,
+-- `signed-length`, `spaced_words-length`, `last_digits-length`, `parts_length`).
 use mathlib.Core.Path.{◌≡◌, refl, sym, ap, ◌∙◌}
 use mathlib.Core.List.{List, [], ◌∷◌, ◌++◌, append_assoc, append-nil}
 use Prim.Native.Nat.{ℕ, zero, suc, ◌+◌, ◌-◌, ◌*◌, ◌/◌, ◌%◌, ◌^◌, ◌<◌, ◌≤◌}

@@ -1,6 +1,6 @@
--- Laws of text put into a buffer: no text (`puts_none`), a byte (`puts-byte`, `puts-left-out`), one text after the other (`puts_then`).
--- The buffer keeps its length (`puts-length`), and a place within it stays within (`puts-within`). If there is room, the text is placed
--- whole (`puts-room`). If there may be no room, the buffer holds as much of the text as there is room for (`puts-cut`).
+-- Laws of text put into a buffer: no text (`puts_none`), a byte (`puts_byte`, `puts_left_out`), one text after the other (`puts_then`).
+-- The buffer keeps its length (`puts_length`), and a place within it stays within (`puts_within`). If there is room, the text is placed
+-- whole (`puts_room`). If there may be no room, the buffer holds as much of the text as there is room for (`puts_cut`).
 use mathlib.Core.Path.{◌≡◌, refl, sym, ap, ◌∙◌}
 use mathlib.Core.List.{List, [], ◌∷◌, ◌++◌, append_assoc, append-nil}
 use Prim.Native.Nat.{ℕ, zero, suc, ◌+◌, ◌-◌, ◌<◌, ◌≤◌, min}

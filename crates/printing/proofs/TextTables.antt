@@ -1,6 +1,6 @@
--- Laws of texts in a table. The text with the number n is the n-th text, if no text has a line feed (`text-of`, `puts-text-of`). Each text
--- is short if all are (`text-short`). How the code finds a text: the next byte of a table (`after_next`, `first_next`), the end of a text
--- or of the table (`first_ends`, `first-end`, `after-end`), and the text that starts at a place, or none (`puts-found`, `puts-other`).
+-- Laws of texts in a table. The text with the number n is the n-th text, if no text has a line feed (`text_of_lem`, `puts_text_of`). Each text
+-- is short if all are (`text_short`). How the code finds a text: the next byte of a table (`after_next`, `first_next`), the end of a text
+-- or of the table (`first_ends`, `first_end`, `after_end`), and the text that starts at a place, or none (`puts_found`, `puts_other`).
 use mathlib.Core.Path.{◌≡◌, refl, sym, ap, ◌∙◌}
 use mathlib.Core.Bool.{Bool, true, false, ◌&&◌}
 use mathlib.Core.List.{List, [], ◌∷◌, ◌++◌}

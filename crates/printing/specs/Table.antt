@@ -25,7 +25,7 @@ abbrev pub first_or : List ℕ → List ℕ → List ℕ
 first_or other [] = other
 first_or other (b ∷ bytes) = first_text (b ∷ bytes)
 
--- the text with the number, or `other` if there is none: `proofs/TextTables` proves text_of (table_of texts) n other ≡ get_d texts n other,
+-- the text with the number, or `other` if there is none: `proofs/TextTables` proves text_of (table_of texts) n other ≡ get_or texts n other,
 -- if no text has a line feed in it
 unfoldable pub text_of : List ℕ → ℕ → List ℕ → List ℕ
 text_of table n other = first_or other (after_texts table n)

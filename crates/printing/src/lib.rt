@@ -3,6 +3,8 @@
 //
 // Each function puts its text into the buffer from a place on. It answers the place after the text, where the next text goes. A byte for
 // which there is no room is left out, and does not move the place.
+#![tactic(auto)]
+
 pub mod hex;
 pub mod numbers;
 pub mod tables;

@@ -1,4 +1,4 @@
--- The words of a chart that are shown: as many as the chart says, but at most as many as it has places (`first-words`).
+-- The words of a chart that are shown: as many as the chart says, but at most as many as it has places (`first_words`).
 use mathlib.Core.Path.{◌≡◌, sym, ◌∙◌}
 use mathlib.Core.List.{List}
 use Prim.Native.Nat.{ℕ, ◌≤◌, min}

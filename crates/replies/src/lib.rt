@@ -1,4 +1,6 @@
 // What the calls answer, as text at the front of a buffer. Each function answers the place after its text.
+#![tactic(auto)]
+
 ghost use Rattle.std.specs.Prelude.{◌≡◌, ◌++◌, min};
 ghost use Rattle.words.specs.Formed.{formed_says};
 ghost use Rattle.chart.specs.Chart.{state_of, build_says};
@@ -128,7 +130,7 @@ pub fn put_refusal(out: &mut [u8], n: u16) -> usize
 }
 
 // What can be wrong with a line.
-#[derive(Drop)]
+#[derive(Clone, Copy)]
 pub enum Fault {
     UnknownCommand,
     MissingNumber,

@@ -1,10 +1,9 @@
 -- Truth values: a conjunction and a disjunction taken apart, and a test by its two outcomes. Two constructors of a type are never the same
--- value (`zero-not-one`).
+-- value (`zero_not_one`).
 use mathlib.Core.Path.{◌≡◌, refl, sym, ◌∙◌}
-use mathlib.Core.Bool.{Bool, true, false, ◌&&◌, ◌||◌, not}
+use mathlib.Core.Bool.{Bool, true, false, ◌&&◌, ◌||◌}
 use Prim.Native.Nat.{ℕ}
 use native.Mathlib.Omega.{arith}
-use borrow.Author.Tests.{not-true, not-false}
 
 -- 0 is not 1. If two values with different constructors are said to be the same, `cc` gives 0 ≡ 1, and anything follows
 pub zero_not_one {ℓ} : {P : Type ℓ} → ◌≡◌ {A = ℕ} 0 1 → P
@@ -35,13 +34,13 @@ same_outcome false true f g = g refl
 same_outcome false false f g = refl
 
 -- r is a call's answer to the test x. An `if !r` decides x
-pub answered_no : {r x : Bool} → r ≡ x → not r ≡ true → x ≡ false
-answered_no {r} e t = sym e ∙ not-true r t
+pub answered_no : {r x : Bool} → r ≡ x → r ≡ false → x ≡ false
+answered_no e t = sym e ∙ t
 
-pub answered_yes : {r x : Bool} → r ≡ x → not r ≡ false → x ≡ true
-answered_yes {r} e t = sym e ∙ not-false r t
+pub answered_yes : {r x : Bool} → r ≡ x → r ≡ true → x ≡ true
+answered_yes e t = sym e ∙ t
 
--- a loop that joins tests: what it found and what remains give the whole. `found-more`: one more test. `found_all`: the end, where nothing
+-- a loop that joins tests: what it found and what remains give the whole. `found_more`: one more test. `found_all`: the end, where nothing
 -- remains
 pub found_more : (found test rest next whole : Bool) → (found && rest) ≡ whole → rest ≡ (test && next) → ((found && test) && next) ≡ whole
 found_more true test rest next whole h e = sym e ∙ h

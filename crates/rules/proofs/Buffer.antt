@@ -1,8 +1,8 @@
--- Laws of a list put into a buffer, for any element type: nothing put (`placed-none`), one element (`placed_one`), a list after another
--- (`placed-then`), and a loop that puts one element a turn (`placed-more`, `placed-next`). What is at the front of a buffer (`front-..`).
+-- Laws of a list put into a buffer, for any element type: nothing put (`placed_none`), one element (`placed_one`), a list after another
+-- (`placed_then`), and a loop that puts one element a turn (`placed_more`, `placed_next`). What is at the front of a buffer (`front-..`).
 use mathlib.Core.Path.{◌≡◌, refl, sym, ap, ◌∙◌}
 use mathlib.Core.List.{List, [], ◌∷◌, ◌++◌, append_assoc}
-use Prim.Native.Nat.{ℕ, suc, ◌+◌, ◌<◌, ◌≤◌}
+use Prim.Native.Nat.{ℕ, ◌+◌, ◌<◌, ◌≤◌}
 use native.Mathlib.Omega.{arith}
 use native.Mathlib.Nat.{zero-add}
 use native.Mathlib.Numerals.{add-one}

@@ -1,6 +1,6 @@
--- The cases of building (`building-ind`): it is refused with a number from 1 to 16, or it gives a chart with at most 33 rounds and at most
--- 32 words removed. If kind and words are accepted, the number is 16 exactly if fewer than fifteen words stand (`sixteen-if-few`,
--- `few-if-sixteen`): document 02, Q-4.
+-- The cases of building (`building_ind`): it is refused with a number from 1 to 16, or it gives a chart with at most 33 rounds and at most
+-- 32 words removed. If kind and words are accepted, the number is 16 exactly if fewer than fifteen words stand (`sixteen_if_few`,
+-- `few_if_sixteen`): document 02, Q-4.
 use mathlib.Core.Path.{◌≡◌, refl}
 use mathlib.Core.Bool.{Bool, true, false}
 use mathlib.Core.List.{List}

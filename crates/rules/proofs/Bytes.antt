@@ -1,6 +1,6 @@
--- Laws of numbers in two bytes and of words in two's complement: the number of bytes (`length-bytes`), numbers read back from their bytes
--- (`number-there`, `numbers-there`), bytes made again from their numbers (`bytes_back`), and words and their numbers (`word_back`,
--- `number-back`).
+-- Laws of numbers in two bytes and of words in two's complement: the number of bytes (`length_bytes`), numbers read back from their bytes
+-- (`number_there`, `numbers_there`), bytes made again from their numbers (`bytes_back`), and words and their numbers (`word_back`,
+-- `number_back`).
 use mathlib.Core.Path.{◌≡◌, refl, ap, ◌∙◌}
 use mathlib.Core.Bool.{true}
 use mathlib.Core.List.{List, [], ◌∷◌, ◌++◌, map}

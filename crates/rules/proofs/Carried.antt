@@ -1,6 +1,6 @@
--- Laws of sums carried between rounds: document 02, Q-5. `given-own`: each round of rejection is given the words that stand in it, with
--- their own n, T and Q. `given-count`: there are as many as rounds. `last-standing`: the words that stand in the last round are the base.
--- `removed-as-before`: the rounds remove as many words as rejection counts. `are-given` and `given-only`: what the rounds are given has the
+-- Laws of sums carried between rounds: document 02, Q-5. `given_own`: each round of rejection is given the words that stand in it, with
+-- their own n, T and Q. `given_count`: there are as many as rounds. `last_standing`: the words that stand in the last round are the base.
+-- `removed_as_before`: the rounds remove as many words as rejection counts. `are_given` and `given_only`: what the rounds are given has the
 -- property `AreGiven`, and no other list has it.
 use mathlib.Core.Path.{◌≡◌, refl, ap, ◌∙◌}
 use mathlib.Core.Bool.{Bool}

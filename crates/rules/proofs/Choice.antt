@@ -1,5 +1,5 @@
--- Laws of `choose` and `require`: what holds in each case holds for the choice (`choose-ind`, `require-ind`), what was chosen
--- decides the condition (`chosen`, `not_chosen`), and the number of a refusal is 0 only if every condition holds (`require-zero`).
+-- Laws of `choose` and `require`: what holds in each case holds for the choice (`choose_ind`, `require_ind`), what was chosen
+-- decides the condition (`chosen`, `not_chosen`), and the number of a refusal is 0 only if every condition holds (`require_zero`).
 use mathlib.Core.Path.{◌≡◌, refl}
 use mathlib.Core.Bool.{Bool, true, false}
 use Prim.Native.Nat.{ℕ, suc}

@@ -1,6 +1,6 @@
 -- Laws of doubles that denote a fraction of whole numbers: a whole number as a double (`whole_is`), its division by 256 (`quotient_is`),
--- and the comparison of a double with a whole number (`above-is`, `below-is`). The k that a double denotes determines the double and its
--- bits (`denotes-unique`, `denotes-bits`), and `parts_in` gives this k (`parts_is`).
+-- and the comparison of a double with a whole number (`above_is`, `below_is`). The k that a double denotes determines the double and its
+-- bits (`denotes_unique`, `denotes_bits`), and `parts_in` gives this k (`parts_is`).
 use mathlib.Core.Path.{◌≡◌, refl, sym, ap, ◌∙◌, subst}
 use mathlib.Core.Bool.{Bool, true, false}
 use Prim.Native.Nat.{ℕ, zero, suc, ◌+◌, ◌*◌, ◌/◌, ◌^◌, ◌≤◌, ◌<◌, zero-le}

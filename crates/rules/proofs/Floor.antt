@@ -1,7 +1,7 @@
--- Document 02, Q-4, "the floor": a step keeps the base, or it is an accepted renewal that leaves fifteen words or more (`step-floor`). So
--- fifteen stand after any calls from fifteen (`after-fifteen`), from what building gives (`built-starts`), and after an accepted renewal
--- (`renewed-fifteen`). With an empty series and a base of fifteen words or more a renewal is accepted (`empty-renews`), so
--- never refused with 16 (`empty-not-sixteen`).
+-- Document 02, Q-4, "the floor": a step keeps the base, or it is an accepted renewal that leaves fifteen words or more (`step_floor`). So
+-- fifteen stand after any calls from fifteen (`after_fifteen`), from what building gives (`built_starts`), and after an accepted renewal
+-- (`renewed_fifteen`). With an empty series and a base of fifteen words or more a renewal is accepted (`empty_renews`), so
+-- never refused with 16 (`empty_not_sixteen`).
 use mathlib.Core.Path.{◌≡◌, refl, sym, ap, ◌∙◌}
 use mathlib.Core.Bool.{Bool, true, false, false≢true}
 use mathlib.Core.List.Memᴰ.{head as first}
@@ -13,7 +13,7 @@ use lib.ListN.{length}
 use lib.Dec.{eqb}
 use lib.IntN.{ℤ}
 use borrow.Author.Tests.{eqb-true, eqb-false, le-leb}
-use Rattle.rules.specs.Outcome.{Outcome, given, refused}
+use Rattle.rules.specs.Outcome.{given}
 use Rattle.rules.specs.Sizes.{base_wanted, base_least}
 use Rattle.rules.specs.Standing.{number_standing}
 use Rattle.rules.specs.Tail.{Tail, of_words, no_tail, WillDo, IsTail, shortest_tail}
@@ -21,9 +21,8 @@ use Rattle.rules.specs.State.{State, fresh, limits_for, add_word, replace_last, 
 use Rattle.rules.specs.Building.{BuiltState, building}
 use Rattle.rules.specs.Reanalysis.{passes}
 use Rattle.rules.specs.Soundness.{sound}
-use Rattle.rules.specs.Machine.{Call, renewal, Answer, judged, reanalysed, corrected, renewed, Next, renewal_refusal}
-use Rattle.rules.specs.Machine.{posting, after_reanalysis, reanalysing, correcting, renewed_by_tail, renewing}
-use Rattle.rules.specs.Machine.{step, state_after, answer_in, after, answers}
+use Rattle.rules.specs.Machine.{Call, renewal, Answer, judged, reanalysed, corrected, renewed, refused, Next, renewal_refusal}
+use Rattle.rules.specs.Machine.{posting, after_reanalysis, reanalysing, correcting, renewed_by_tail, renewing, step, after, answers}
 use Rattle.rules.proofs.Booleans.{by_test}
 use Rattle.rules.proofs.Tail.{tail_is, whole_will_do}
 use Rattle.rules.proofs.Soundness.{sound_facts, not_free_facts, built_sound, built_fifteen}
@@ -32,17 +31,17 @@ use Rattle.rules.proofs.Machine.{step_ind, after_ten}
 -- ---- one step
 
 -- the answer is that of an accepted renewal
-abbrev pub is_renewed : Outcome Answer → Bool
-is_renewed (given (judged w v)) = false
-is_renewed (given (reanalysed w passed)) = false
-is_renewed (given corrected) = false
-is_renewed (given (renewed rounds removed)) = true
+abbrev pub is_renewed : Answer → Bool
+is_renewed (judged w v) = false
+is_renewed (reanalysed w passed) = false
+is_renewed corrected = false
+is_renewed (renewed rounds removed) = true
 is_renewed (refused n) = false
 
 -- what a step does to the base: it stays, or an accepted renewal leaves fifteen words or more
-pub data Floor (s : State) (o : Outcome Next) : Type 0 where
-  base_kept : (state_after s o).base ≡ s.base → is_renewed (answer_in o) ≡ false → Floor s o
-  base_renewed : base_wanted ≤ length (state_after s o).base → is_renewed (answer_in o) ≡ true → Floor s o
+pub data Floor (s : State) (next : Next) : Type 0 where
+  base_kept : next.state.base ≡ s.base → is_renewed next.answer ≡ false → Floor s next
+  base_renewed : base_wanted ≤ length next.state.base → is_renewed next.answer ≡ true → Floor s next
 
 base_after_reanalysis : (s : State) (w : ℤ) (passed : Bool) → (after_reanalysis s w passed).base ≡ s.base
 unfolding after_reanalysis set_status replace_last
@@ -61,12 +60,11 @@ step_floor s =
 
 -- ---- a list of calls
 
-floor_kept : {s : State} {o : Outcome Next} → Floor s o → base_wanted ≤ length s.base → base_wanted ≤ length (state_after s o).base
+floor_kept : {s : State} {next : Next} → Floor s next → base_wanted ≤ length s.base → base_wanted ≤ length next.state.base
 floor_kept (base_kept same none) h = omega (arith, ap (λ (ws : List ℤ). length ws) same)
 floor_kept (base_renewed stand is) h = stand
 
-floor_renewed : {s : State} {o : Outcome Next} → Floor s o → is_renewed (answer_in o) ≡ true
-    → base_wanted ≤ length (state_after s o).base
+floor_renewed : {s : State} {next : Next} → Floor s next → is_renewed next.answer ≡ true → base_wanted ≤ length next.state.base
 floor_renewed (base_kept same none) e = absurd (false≢true (sym none ∙ e))
 floor_renewed (base_renewed stand is) e = stand
 
@@ -74,15 +72,16 @@ floor_renewed (base_renewed stand is) e = stand
 pub after_fifteen : (s : State) (calls : List Call) → base_wanted ≤ length s.base → base_wanted ≤ length (after s calls).base
 unfolding after
 after_fifteen s [] h = h
-after_fifteen s (call ∷ calls) h = after_fifteen (state_after s (step s call)) calls (floor_kept (step_floor s call) h)
+after_fifteen s (call ∷ calls) h = after_fifteen (step s call).state calls (floor_kept (step_floor s call) h)
 
 -- from any state, if a renewal is among the accepted calls
-pub renewed_fifteen : (s : State) (calls : List Call) (rounds removed : ℕ) → Among (given (renewed rounds removed)) (answers s calls)
+pub renewed_fifteen : (s : State) (calls : List Call) (rounds removed : ℕ) → Among (renewed rounds removed) (answers s calls)
     → base_wanted ≤ length (after s calls).base
 unfolding after answers
+renewed_fifteen s [] rounds removed x' = elim x' [ ]
 renewed_fifteen s (call ∷ calls) rounds removed (first e) =
-    after_fifteen (state_after s (step s call)) calls (floor_renewed (step_floor s call) (sym (ap is_renewed e)))
-renewed_fifteen s (call ∷ calls) rounds removed (later m) = renewed_fifteen (state_after s (step s call)) calls rounds removed m
+    after_fifteen (step s call).state calls (floor_renewed (step_floor s call) (sym (ap is_renewed e)))
+renewed_fifteen s (call ∷ calls) rounds removed (later m) = renewed_fifteen (step s call).state calls rounds removed m
 
 -- ---- a start: it is sound, and after any calls at least `floor` words stand
 
@@ -109,7 +108,7 @@ module _ (s : State) (h : sound s ≡ true) (empty : s.series ≡ []) (enough : 
       let f = sound_facts s h in
       rw (empty, append-nil) (whole_will_do s.kind s.base enough f.base_most_lem f.base_within)
 
-  renews : (t : Tail) → IsTail s.kind (s.base ++ s.series) t → is_renewed (answer_in (renewed_by_tail s t)) ≡ true
+  renews : (t : Tail) → IsTail s.kind (s.base ++ s.series) t → is_renewed (renewed_by_tail s t).answer ≡ true
   renews (of_words k) is = refl
   renews no_tail is = absurd (is (length s.base) whole)
 
@@ -126,9 +125,9 @@ module _ (s : State) (h : sound s ≡ true) (empty : s.series ≡ []) (enough : 
   unfolding renewal_refusal
   not_refused = rw (free, le-leb base_wanted (length s.base + length s.series) (omega arith))
 
-  pub empty_renews : is_renewed (answer_in (step s renewal)) ≡ true
+  pub empty_renews : is_renewed (step s renewal).answer ≡ true
   unfolding step renewing
   empty_renews = rw not_refused (renews (shortest_tail s.kind (s.base ++ s.series)) (tail_is s.kind (s.base ++ s.series)))
 
-  pub empty_not_sixteen : answer_in (step s renewal) ≡ refused 16 → ⊥
+  pub empty_not_sixteen : (step s renewal).answer ≡ refused 16 → ⊥
   empty_not_sixteen e = false≢true (ap is_renewed (sym e) ∙ empty_renews)

@@ -1,5 +1,5 @@
--- What document 02, Q-3 changed: rounding and the rule before it give the same number (`same-as-former`), except if the quotient is exactly
--- halfway and its whole part is even. There the former rule went one farther from zero (`one-nearer-than-former`).
+-- What document 02, Q-3 changed: rounding and the rule before it give the same number (`same_as_former`), except if the quotient is exactly
+-- halfway and its whole part is even. There the former rule went one farther from zero (`one_nearer_than_former`).
 use mathlib.Core.Path.{◌≡◌, ap}
 use Prim.Native.Nat.{ℕ, suc, ◌+◌, ◌*◌, ◌/◌, ◌%◌, ◌<◌, ◌≤◌}
 use native.Mathlib.Omega.{arith}

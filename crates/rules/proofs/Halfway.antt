@@ -1,7 +1,7 @@
--- Which readings can give a quotient exactly halfway between two words. Kinds 2 and 3: the divisor is a multiple of 32 (`half-recovery`).
--- Kind 1: the sum of the two results is a multiple of 128 (`half-duplicate`).
+-- Which readings can give a quotient exactly halfway between two words. Kinds 2 and 3: the divisor is a multiple of 32 (`half_recovery`).
+-- Kind 1: the sum of the two results is a multiple of 128 (`half_duplicate`).
 use mathlib.Core.Path.{◌≡◌, ap}
-use Prim.Native.Nat.{ℕ, zero, suc, ◌+◌, ◌-◌, ◌*◌, ◌/◌, ◌%◌}
+use Prim.Native.Nat.{ℕ, zero, suc, ◌+◌, ◌*◌, ◌/◌, ◌%◌}
 use native.Mathlib.Omega.{arith}
 use native.Mathlib.Nat.{div-add-mod'}
 use Rattle.rules.proofs.Integers.{by_order, distance}

@@ -1,5 +1,5 @@
--- Laws of words that all pass a test: some of them, in their old order, pass it (`all-some`), and so do two such lists joined
--- (`all-joined`). The same laws for words in range, and for words none of which passes a test.
+-- Laws of words that all pass a test: some of them, in their old order, pass it (`all_some`), and so do two such lists joined
+-- (`all_joined`). The same laws for words in range, and for words none of which passes a test.
 use mathlib.Core.Path.{◌≡◌, refl, ap}
 use mathlib.Core.Bool.{Bool, true, false, not}
 use mathlib.Core.List.{List, [], ◌∷◌, ◌++◌}

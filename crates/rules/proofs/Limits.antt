@@ -1,6 +1,6 @@
 -- Laws of sums and limits, over any list of integers and any multiple m of S.
--- `squared-deviations`: n·V is the sum of the squared deviations, so V is never negative (`v-natural`).
--- `exceeds-natural`: the comparison with a limit, in natural numbers. `few-beyond`: how many words can lie beyond m·S.
+-- `squared_deviations`: n·V is the sum of the squared deviations, so V is never negative (`v_natural`).
+-- `exceeds_natural`: the comparison with a limit, in natural numbers. `few_beyond`: how many words can lie beyond m·S.
 use mathlib.Core.Path.{◌≡◌, refl, sym, ap, ◌∙◌}
 use mathlib.Core.Bool.{Bool, true}
 use mathlib.Core.List.{List, [], ◌∷◌, ◌++◌, map-append}

@@ -1,7 +1,7 @@
 -- Laws of lines, for any multiple m of S and the sums of two words or more. A whole number of 256ths is above the exact limit exactly if it
--- is above the upper line (`above-upper`), and below the exact limit exactly if it is below the lower line (`below-lower`). So the line is
+-- is above the upper line (`above_upper`), and below the exact limit exactly if it is below the lower line (`below_lower`). So the line is
 -- the greatest whole number not above the limit, or the least not below it, and it is less than 1 away. It judges a word as the limit does
--- (`upper-double`, `lower-double`, `mean-double`, `line-doubles`, `judged-by-lines`).
+-- (`upper_double`, `lower_double`, `mean_double`, `line_doubles`, `judged_by_lines`).
 use mathlib.Core.Path.{◌≡◌, refl, sym, ap, ◌∙◌}
 use mathlib.Core.Bool.{Bool, true, false, ◌&&◌, false≢true}
 use mathlib.Core.List.{List, [], ◌∷◌}
@@ -139,7 +139,7 @@ module _ (s : Sums) (two : 2 ≤ s.n) (natural : v_of s ≡ pos (nat_abs (v_of s
       ∙ ap (λ (x : ℕ). ltb x (square_of d * (s.n - 1))) same
       ∙ root_bound (m * m * (s.n * v)) (s.n - 1) (nat_abs d) (omega arith)
 
-  -- `up-greatest`: a deviation above 0 that is more than r. `down-greatest`: one below 0
+  -- `up_greatest`: a deviation above 0 that is more than r. `down_greatest`: one below 0
   up_greatest : (r : ℕ) (d : ℤ) → (lt_z (pos 0) d && ltb r (nat_abs d)) ≡ lt_z (pos r) d
   up_greatest r (pos zero) = sym (le-ltb r 0 (omega arith))
   up_greatest r (pos (suc d)) = ap (λ (t : Bool). t && ltb r (suc d)) (lt-ltb 0 (suc d) (omega arith))

@@ -1,5 +1,5 @@
 -- The machine's start is sound, and after any calls from it at least fifteen words stand if it is a start after building
--- (`start-of-building`), and at least ten if it is one after reading (`start-of-reading`).
+-- (`start_of_building_lem`), and at least ten if it is one after reading (`start_of-reading`).
 use mathlib.Core.Path.{◌≡◌}
 use mathlib.Core.List.{List}
 use Prim.Native.Nat.{ℕ}

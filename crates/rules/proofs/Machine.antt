@@ -1,6 +1,6 @@
--- Laws of the machine: the cases of a step (`step-ind`). Every step keeps soundness (`step-sound`) and never answers 14
--- (`step-not-fourteen`). The counts of a renewal are small (`renewed-small`). The same holds for a run of any calls from a sound state
--- (`sound-run`), and from what building gives (`built-run`).
+-- Laws of the machine: the cases of a step (`step_ind`). Every step keeps soundness (`step-sound`) and never answers 14
+-- (`step_not_fourteen`). The counts of a renewal are small (`renewed_small`). The same holds for a run of any calls from a sound state
+-- (`sound_run`), and from what building gives (`built_run`).
 use mathlib.Core.Path.{◌≡◌, refl, sym, ap, ◌∙◌}
 use mathlib.Core.Bool.{Bool, true, false, not}
 use mathlib.Core.List.Memᴰ.{head as first}
@@ -12,12 +12,12 @@ use lib.ListN.{length}
 use lib.Dec.{leb, ltb, eqb}
 use lib.IntN.{ℤ, nat_abs}
 use borrow.Author.Tests.{leb-true, ltb-true, eqb-true, eqb-false, not-true}
-use Rattle.rules.specs.Outcome.{Outcome, given, refused, and_then, unless_number}
+use Rattle.rules.specs.Outcome.{Outcome, given}
+use Rattle.rules.specs.Outcome as outcome
 use Rattle.rules.specs.Choice.{require}
 use Rattle.rules.specs.Sizes.{base_wanted, base_most, base_least, series_most}
 use Rattle.rules.specs.Kind.{in_range}
-use Rattle.rules.specs.Reading.{Reading}
-use Rattle.rules.specs.Word.{are_readings, divisor, rounded_quotient, from_reading}
+use Rattle.rules.specs.Word as word
 use Rattle.rules.specs.Limits.{Limits, beyond_control}
 use Rattle.rules.specs.AllOf.{none_of}
 use Rattle.rules.specs.Rejection.{rejection}
@@ -28,13 +28,12 @@ use Rattle.rules.specs.Building.{all_in_range, BuiltState, building}
 use Rattle.rules.specs.Verdict.{verdict, status_for}
 use Rattle.rules.specs.Reanalysis.{passes_verdict, passes}
 use Rattle.rules.specs.Soundness.{held_within, status_fits, sound}
-use Rattle.rules.specs.Machine.{Call, post, reanalysis, correction, renewal, Answer, judged, reanalysed, corrected, renewed}
-use Rattle.rules.specs.Machine.{Next, post_refusal, reanalysis_refusal, correction_refusal, renewal_refusal, word_for}
-use Rattle.rules.specs.Machine.{posting, after_reanalysis, reanalysing, correcting, renewed_by, renewed_by_tail, renewing, performed}
-use Rattle.rules.specs.Machine.{step, state_after, answer_in, after, answers}
+use Rattle.rules.specs.Machine.{Call, post, reanalysis, correction, renewal, Answer, judged, reanalysed, corrected, renewed, refused}
+use Rattle.rules.specs.Machine.{Next, declined, post_refusal, reanalysis_refusal, correction_refusal, renewal_refusal, word_for, if_formed}
+use Rattle.rules.specs.Machine.{posting, after_reanalysis, reanalysing, correcting, renewed_by_tail, renewing, unless_refused}
+use Rattle.rules.specs.Machine.{step, after, answers}
 use Rattle.rules.proofs.Booleans.{both, by_test, zero_not_one}
 use Rattle.rules.proofs.Choice.{choose_ind, require_ind, require_zero}
-use Rattle.rules.proofs.Outcome.{unless_ind, given_not_refused}
 use Rattle.rules.proofs.Rejection.{rejection_counts, rejection_rounds}
 use Rattle.rules.proofs.InOrder.{in_range_some, in_range_joined, in_range_added, none_added}
 use Rattle.rules.proofs.LastWords.{length_added, but_last_added, but_last_in_order, length-but_last, last_words_in_order}
@@ -90,57 +89,60 @@ two_within : (t u : Bool) (n m : ℕ) → n ≤ 12 → m ≤ 12 → require t n 
 two_within t u n m h k = require_ind (λ k. k ≤ 12) t n _ (λ _. one_within u m k) (λ _. h)
 
 -- a reading gives a word in the range of its kind, or a refusal
-pub reading_ind : (r : Reading) (P : Outcome ℤ → Type 0)
-    → ((w : ℤ) → in_range r.kind w ≡ true → P (given w)) → ((n : ℕ) → IsRefusalNumber n → P (refused n)) → P (from_reading r)
-unfolding from_reading
-reading_ind r P forms declines =
-    require_ind P (are_readings r) (refused 5) _
-    (λ _. require_ind P (not (eqb (nat_abs (divisor r)) 0)) (refused 6) _
-    (λ _. require_ind P (in_range r.kind (rounded_quotient r)) (refused 7) _
-    (λ within. forms (rounded_quotient r) within)
+pub reading_ind : (kind : ℕ) (a b c : ℤ) (P : Outcome ℤ → Type 0)
+    → ((w : ℤ) → in_range kind w ≡ true → P (given w)) → ((n : ℕ) → IsRefusalNumber n → P (outcome.refused n))
+    → P (word.from_reading kind a b c)
+unfolding word.from_reading
+reading_ind kind a b c P forms declines =
+    require_ind P (word.are_readings kind a b c) (outcome.refused 5) _
+    (λ _. require_ind P (not (eqb (nat_abs (word.divisor kind a b c)) 0)) (outcome.refused 6) _
+    (λ _. require_ind P (in_range kind (word.rounded_quotient kind a b c)) (outcome.refused 7) _
+    (λ r. forms (word.rounded_quotient kind a b c) r)
     (λ _. declines 7 (up_to_twelve 7 (omega arith))))
     (λ _. declines 6 (up_to_twelve 6 (omega arith))))
     (λ _. declines 5 (up_to_twelve 5 (omega arith)))
 
 -- for a chart, a reading gives a word in the range of the chart kind, or a refusal
-word_ind : (chart_kind : ℕ) (r : Reading) (P : Outcome ℤ → Type 0)
-    → ((w : ℤ) → in_range chart_kind w ≡ true → P (given w)) → ((n : ℕ) → IsRefusalNumber n → P (refused n)) → P (word_for chart_kind r)
+word_ind : (chart_kind kind : ℕ) (a b c : ℤ) (P : Outcome ℤ → Type 0)
+    → ((w : ℤ) → in_range chart_kind w ≡ true → P (given w)) → ((n : ℕ) → IsRefusalNumber n → P (outcome.refused n))
+    → P (word_for chart_kind kind a b c)
 unfolding word_for
-word_ind chart_kind r P forms declines =
-    require_ind P (eqb r.kind chart_kind) (refused 4) _
-    (λ same. reading_ind r P (λ w within. forms w (rw (eqb-true r.kind chart_kind same) at within)) declines)
+word_ind chart_kind kind a b c P forms declines =
+    require_ind P (eqb kind chart_kind) (outcome.refused 4) _
+    (λ same. reading_ind kind a b c P (λ w r. forms w (rw (eqb-true kind chart_kind same) at r)) declines)
     (λ _. declines 4 (up_to_twelve 4 (omega arith)))
 
 -- P holds for the step, if it holds for a refused call, and for each accepted call. The premises state what is known in each case
-module _ (s : State) (P : Outcome Next → Type 0)
-    (declines : (n : ℕ) → IsRefusalNumber n → P (refused n))
-    (posts : (w : ℤ) → s.status ≡ 0 → length s.series < series_most → in_range s.kind w ≡ true → P (given (posting s w)))
-    (reanalyses : (w : ℤ) → s.status ≡ 1 → in_range s.kind w ≡ true → P (given (reanalysing s w)))
-    (corrects : s.status ≡ 2 → P (given (correcting s)))
+module _ (s : State) (P : Next → Type 0)
+    (declines : (n : ℕ) → IsRefusalNumber n → P (declined s n))
+    (posts : (w : ℤ) → s.status ≡ 0 → length s.series < series_most → in_range s.kind w ≡ true → P (posting s w))
+    (reanalyses : (w : ℤ) → s.status ≡ 1 → in_range s.kind w ≡ true → P (reanalysing s w))
+    (corrects : s.status ≡ 2 → P (correcting s))
     (renews : (k : ℕ) → s.status ≡ 0 → Shortest s.kind (s.base ++ s.series) k → P (renewed_by_tail s (of_words k))) where
-  unless_refused_lem : (n : ℕ) (o : Outcome Next) → n ≤ 12 → (n ≡ 0 → P o) → P (unless_number n o)
-  unless_refused_lem n o h f = unless_ind P n o f (λ _. declines n (up_to_twelve n h))
+  unless_refused_lem : (n : ℕ) (next : Next) → n ≤ 12 → (n ≡ 0 → P next) → P (unless_refused s n next)
+  unless_refused_lem zero next h f = f refl
+  unless_refused_lem (suc n) next h f = declines (suc n) (up_to_twelve (suc n) h)
 
   by_tail : s.status ≡ 0 → (t : Tail) → IsTail s.kind (s.base ++ s.series) t → P (renewed_by_tail s t)
   by_tail free (of_words k) is = renews k free is
   by_tail free no_tail is = declines 16 sixteen
 
-  if_formed_lem : (r : Reading) (next : ℤ → Next) → ((w : ℤ) → in_range s.kind w ≡ true → P (given (next w)))
-      → P (and_then (word_for s.kind r) (λ (w : ℤ). given (next w)))
-  if_formed_lem r next f = word_ind s.kind r (λ formed. P (and_then formed (λ (w : ℤ). given (next w)))) f declines
+  if_formed_lem : (kind : ℕ) (a b c : ℤ) (next : ℤ → Next) → ((w : ℤ) → in_range s.kind w ≡ true → P (next w))
+      → P (if_formed s (word_for s.kind kind a b c) next)
+  if_formed_lem kind a b c next f = word_ind s.kind kind a b c (λ formed. P (if_formed s formed next)) f declines
 
   pub step_ind : (call : Call) → P (step s call)
   unfolding step post_refusal reanalysis_refusal correction_refusal renewal_refusal renewing
-  step_ind (post r) =
-      unless_refused_lem (post_refusal s) (performed s (post r))
+  step_ind (post kind a b c) =
+      unless_refused_lem (post_refusal s) (if_formed s (word_for s.kind kind a b c) (posting s))
       (two_within (eqb s.status 0) (ltb (length s.series) series_most) 8 9 (omega arith) (omega arith))
-      (λ e. let can = can_post s e in if_formed_lem r (posting s) (λ w within. posts w can.0 can.1 within))
-  step_ind (reanalysis r) =
-      unless_refused_lem (reanalysis_refusal s) (performed s (reanalysis r))
+      (λ e. let can = can_post s e in if_formed_lem kind a b c (posting s) (λ w r. posts w can.0 can.1 r))
+  step_ind (reanalysis kind a b c) =
+      unless_refused_lem (reanalysis_refusal s) (if_formed s (word_for s.kind kind a b c) (reanalysing s))
       (one_within (eqb s.status 1) 10 (omega arith))
-      (λ e. if_formed_lem r (reanalysing s) (λ w within. reanalyses w (can_reanalyse s e) within))
+      (λ e. if_formed_lem kind a b c (reanalysing s) (λ w r. reanalyses w (can_reanalyse s e) r))
   step_ind correction =
-      unless_refused_lem (correction_refusal s) (given (correcting s)) (one_within (eqb s.status 2) 11 (omega arith))
+      unless_refused_lem (correction_refusal s) (correcting s) (one_within (eqb s.status 2) 11 (omega arith))
       (λ e. corrects (can_correct s e))
   step_ind renewal =
       unless_refused_lem (renewal_refusal s) (renewing s)
@@ -264,7 +266,7 @@ correcting-sound s h due = status_set_sound s 1 h (omega arith) (omega arith) (o
 
 -- a renewal rejects from the words of a tail, which are 15 to 32
 pub renewing-sound : (s : State) (k : ℕ) → sound s ≡ true → WillDo s.kind (s.base ++ s.series) k
-    → sound (state_after s (renewed_by_tail s (of_words k))) ≡ true
+    → sound (renewed_by_tail s (of_words k)).state ≡ true
 renewing-sound s k h does =
     let f = sound_facts s h in
     let all = s.base ++ s.series in
@@ -274,9 +276,9 @@ renewing-sound s k h does =
     (omega (arith, does.least)) (omega (arith, does.most))
 
 -- every call, also a refused one
-pub step-sound : (s : State) (call : Call) → sound s ≡ true → sound (state_after s (step s call)) ≡ true
+pub step-sound : (s : State) (call : Call) → sound s ≡ true → sound (step s call).state ≡ true
 step-sound s call h =
-    step_ind s (λ o. sound (state_after s o) ≡ true)
+    step_ind s (λ next. sound next.state ≡ true)
     (λ n _. h)
     (λ w free room r. posting-sound s w h free room r)
     (λ w due r. reanalysing-sound s w h due r)
@@ -286,15 +288,19 @@ step-sound s call h =
 
 -- ---- no refusal 14
 
--- the number of a refusal, and 0 for any answer
-abbrev pub refusal_number : {A : Type 0} → Outcome A → ℕ
-refusal_number (given x) = 0
+-- the number of a refusal, and 0 for any other answer
+abbrev pub refusal_number : Answer → ℕ
+refusal_number (judged w v) = 0
+refusal_number (reanalysed w passed) = 0
+refusal_number corrected = 0
+refusal_number (renewed rounds removed) = 0
 refusal_number (refused n) = n
 
 -- from any state, a step refuses with a number of the machine, or not at all
-pub step_refusal : (s : State) (call : Call) → IsRefusalNumber (refusal_number (answer_in (step s call)))
+pub step_refusal : (s : State) (call : Call) → IsRefusalNumber (refusal_number (step s call).answer)
+unfolding posting reanalysing correcting
 step_refusal s =
-    step_ind s (λ o. IsRefusalNumber (refusal_number (answer_in o)))
+    step_ind s (λ next. IsRefusalNumber (refusal_number next.answer))
     (λ n one. one)
     (λ w free room r. up_to_twelve 0 (omega arith))
     (λ w due r. up_to_twelve 0 (omega arith))
@@ -302,17 +308,16 @@ step_refusal s =
     (λ k free is. up_to_twelve 0 (omega arith))
 
 -- so it never refuses with 14
-pub step_not_fourteen : (s : State) (call : Call) → answer_in (step s call) ≡ refused 14 → ⊥
+pub step_not_fourteen : (s : State) (call : Call) → (step s call).answer ≡ refused 14 → ⊥
 step_not_fourteen s call e = (step_refusal s call).not_fourteen (ap refusal_number e)
 
 -- ---- a renewal's counts
 
--- what `renewed-small` says about an answer
-abbrev pub SmallCounts : Outcome Answer → Type 0
-SmallCounts answer = (rounds removed : ℕ) → answer ≡ given (renewed rounds removed) → (rounds ≤ suc base_most) × (removed ≤ base_most)
+-- what `renewed_small` says about an answer
+abbrev pub SmallCounts : Answer → Type 0
+SmallCounts answer = (rounds removed : ℕ) → answer ≡ renewed rounds removed → (rounds ≤ suc base_most) × (removed ≤ base_most)
 
-pub renewing_small : (s : State) (k : ℕ) → WillDo s.kind (s.base ++ s.series) k
-    → SmallCounts (answer_in (renewed_by_tail s (of_words k)))
+pub renewing_small : (s : State) (k : ℕ) → WillDo s.kind (s.base ++ s.series) k → SmallCounts (renewed_by_tail s (of_words k)).answer
 renewing_small s k does rounds removed e =
     let words = last_words k (s.base ++ s.series) in
     let count = length-last_words k (s.base ++ s.series) does.within in
@@ -321,11 +326,12 @@ renewing_small s k does rounds removed e =
     omega (arith, rejection_counts s.kind words, rejection_rounds s.kind words, does.most)
 
 -- from any state, the rejection of a renewal takes at most 33 rounds and removes at most 32 words
-pub renewed_small : (s : State) (call : Call) → SmallCounts (answer_in (step s call))
+pub renewed_small : (s : State) (call : Call) (rounds removed : ℕ) → (step s call).answer ≡ renewed rounds removed
+    → (rounds ≤ suc base_most) × (removed ≤ base_most)
 unfolding posting reanalysing correcting
 renewed_small s =
-    step_ind s (λ o. SmallCounts (answer_in o))
-    (λ n within rounds removed e. given_not_refused (sym e))
+    step_ind s (λ next. SmallCounts next.answer)
+    (λ n within rounds removed e. zero_not_one cc)
     (λ w free room r rounds removed e. zero_not_one cc)
     (λ w due r rounds removed e. zero_not_one cc)
     (λ due rounds removed e. zero_not_one cc)
@@ -337,7 +343,7 @@ renewed_small s =
 pub after-sound : (s : State) (calls : List Call) → sound s ≡ true → sound (after s calls) ≡ true
 unfolding after
 after-sound s [] h = h
-after-sound s (call ∷ calls) h = after-sound (state_after s (step s call)) calls (step-sound s call h)
+after-sound s (call ∷ calls) h = after-sound (step s call).state calls (step-sound s call h)
 
 -- the base has ten words or more
 pub after_ten : (s : State) (calls : List Call) → sound s ≡ true → base_least ≤ length (after s calls).base
@@ -350,8 +356,9 @@ after_status s calls h = status_facts (after s calls) (after-sound s calls h)
 -- from any state, 14 is not among the answers
 pub answers_not_fourteen : (s : State) (calls : List Call) → Among (refused 14) (answers s calls) → ⊥
 unfolding answers
+answers_not_fourteen s [] x' = elim x' [ ]
 answers_not_fourteen s (call ∷ calls) (first e) = step_not_fourteen s call (sym e)
-answers_not_fourteen s (call ∷ calls) (later m) = answers_not_fourteen (state_after s (step s call)) calls m
+answers_not_fourteen s (call ∷ calls) (later m) = answers_not_fourteen (step s call).state calls m
 
 -- all of this, for a run from a sound state
 pub record SoundRun (s : State) (calls : List Call) : Type 0 where

@@ -1,6 +1,6 @@
--- Laws of outcomes: what is given is one thing (`same-given`) and no refusal (`given-not-refused`); what an outcome that is given says of
--- the conditions before it (`require-given`, `unless-given`, `then-given`); and what holds in each case (`unless-ind`, `then-ind`).
-use mathlib.Core.Path.{◌≡◌, refl, sym, ap, ◌∙◌}
+-- Laws of outcomes: what is given is one thing (`same_given`) and no refusal (`given_not_refused`); what an outcome that is given says of
+-- the conditions before it (`require_given`, `unless_given`, `then_given`); and what holds in each case (`unless_ind`, `then-ind`).
+use mathlib.Core.Path.{◌≡◌, refl, sym}
 use mathlib.Core.Bool.{Bool, true, false}
 use Prim.Native.Nat.{ℕ, zero, suc, ◌≤◌}
 use native.Mathlib.Omega.{arith}

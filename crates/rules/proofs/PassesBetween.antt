@@ -1,4 +1,4 @@
--- Tests that every word between two passing words passes too (`PassesBetween`): to be in the range of a kind (`in-range-between`), and to
+-- Tests that every word between two passing words passes too (`PassesBetween`): to be in the range of a kind (`in_range-between`), and to
 -- be beyond neither limit (`within-between`). If a word is above the upper limit, so is every greater word (`above_more`). If a word is
 -- below the lower limit, so is every lesser word (`below_less`). This holds at any multiple m of S and for any sums, also those of no word.
 use mathlib.Core.Path.{◌≡◌, refl, ap}

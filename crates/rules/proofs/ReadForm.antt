@@ -1,9 +1,9 @@
 -- The stored form, written and read. The bytes of a record are read as that record (`record-*`), and bytes that are a record are its bytes
--- (`record-back`). The same holds for the three records (`form-is`, `form-held`, `form-back`). A sound state that is written is read as the
--- same state (`read-stored`). Accepted bytes are those that writing the state gives (`stored-read`). Two sound states never have the same
+-- (`record_back`). The same holds for the three records (`form_is`, `form_held`, `form_back`). A sound state that is written is read as the
+-- same state (`read_stored`). Accepted bytes are those that writing the state gives (`stored_read`). Two sound states never have the same
 -- bytes (`one_form`). Reading answers 13 exactly if the bytes are no form of a state with numbers of words that a chart can have
--- (`thirteen`, `no-form`). It answers 14 for the form of a state that is open under 3 where 4 applies (`sided-trend-fourteen`). Lists of
--- calls from reading are sound (`read-run`).
+-- (`thirteen`, `no_form`). It answers 14 for the form of a state that is open under 3 where 4 applies (`sided_trend_fourteen`). Lists of
+-- calls from reading are sound (`read_run`).
 use mathlib.Core.Path.{◌≡◌, refl, sym, ap, ap₂, ◌∙◌}
 use mathlib.Core.Bool.{Bool, true, false, ◌&&◌}
 use mathlib.Core.List.{List, [], ◌∷◌, ◌++◌, map, append-nil}

@@ -1,4 +1,4 @@
--- Laws of rejection. `rejection-ends` and `rejection-goes-on` are its two equations, and `rejection-ind` is the induction that they give.
+-- Laws of rejection. `rejection-ends` and `rejection_goes_on` are its two equations, and `rejection_ind` is the induction that they give.
 -- The rest follows by it: rounds and removals are counted as in the paper, the words left are in their old order, none of them is beyond
 -- their own control limits, and of ten words or more at least ten are left.
 use mathlib.Core.Path.{◌≡◌, refl, ap}

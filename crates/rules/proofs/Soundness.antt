@@ -1,7 +1,7 @@
--- Laws of soundness: its facts by name, in both directions (`sound-facts`, `sound-from`); status and open verdict of a sound state
--- (`status-facts`). A state that is open under 3, though 4 applies, is not sound (`sided-trend-unsound`). A fresh chart of the words that
--- rejection leaves is sound (`fresh-sound`), and so is the chart that building gives (`built-sound`), in which fifteen words or more stand
--- (`built-fifteen`).
+-- Laws of soundness: its facts by name, in both directions (`sound_facts`, `sound_from`); status and open verdict of a sound state
+-- (`status_facts`). A state that is open under 3, though 4 applies, is not sound (`sided_trend_unsound`). A fresh chart of the words that
+-- rejection leaves is sound (`fresh-sound`), and so is the chart that building gives (`built_sound`), in which fifteen words or more stand
+-- (`built_fifteen`).
 use mathlib.Core.Path.{◌≡◌, refl, sym, ap, ◌∙◌}
 use mathlib.Core.Bool.{true, false}
 use mathlib.Core.List.{List, []}

@@ -1,4 +1,4 @@
--- The whole part of a square root is the greatest whole number whose square is at most q (`root_is`), and no other number is (`root-only`).
+-- The whole part of a square root is the greatest whole number whose square is at most q (`root_is`), and no other number is (`root_only`).
 use mathlib.Core.Path.{◌≡◌}
 use Prim.Native.Nat.{ℕ, zero, suc, ◌+◌, ◌*◌, ◌/◌, ◌^◌, ◌<◌, ◌≤◌}
 use native.Mathlib.Omega.{arith}

@@ -1,6 +1,6 @@
--- Laws of the tail that a renewal uses: `shortest_tail` is the shortest tail that will do, or none if no tail will do (`tail-is`), and
--- nothing else is (`tail-only`). No law between tails of different lengths is used. A list of 15 to 32 words of which rejection leaves all
--- has a tail that will do (`whole-will-do`).
+-- Laws of the tail that a renewal uses: `shortest_tail` is the shortest tail that will do, or none if no tail will do (`tail_is`), and
+-- nothing else is (`tail_only`). No law between tails of different lengths is used. A list of 15 to 32 words of which rejection leaves all
+-- has a tail that will do (`whole_will_do`).
 use mathlib.Core.Path.{◌≡◌, refl, ap, ◌∙◌}
 use mathlib.Core.Bool.{true, false}
 use mathlib.Core.List.{List}

@@ -1,5 +1,5 @@
--- Laws of the verdict. It goes by the order 1, 2, 4, 3 (`verdict-is`), and no other number does (`verdict-only`). All other laws follow
--- from this: document 02, Q-1 (`side-before-trend`, `trend-not-sided`); it is at most 4, and at most 3 on a chart of kind 1; if it is 0,
+-- Laws of the verdict. It goes by the order 1, 2, 4, 3 (`verdict_is`), and no other number does (`verdict-only`). All other laws follow
+-- from this: document 02, Q-1 (`side_before_trend`, `trend_not_sided`); it is at most 4, and at most 3 on a chart of kind 1; if it is 0,
 -- the last word is not beyond a control limit. Then the status that it sets.
 use mathlib.Core.Path.{◌≡◌, refl, sym, ◌∙◌}
 use mathlib.Core.Bool.{false, true, false≢true}

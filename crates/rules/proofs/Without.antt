@@ -1,4 +1,4 @@
--- Laws of the words without those that pass a test: an induction over them (`without-ind`), and what it gives.
+-- Laws of the words without those that pass a test: an induction over them (`without_ind`), and what it gives.
 use mathlib.Core.Path.{◌≡◌, refl, ap}
 use mathlib.Core.Bool.{Bool, true, false, false≢true}
 use mathlib.Core.List.{List, [], ◌∷◌}

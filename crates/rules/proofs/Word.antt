@@ -1,6 +1,6 @@
--- Laws of rounding: `nearest` gives a nearest whole number, and of two the even one (`nearest-is`). No other number is that
--- (`nearest-only`). The opposite number rounds to the opposite result (`nearest-opposite`). Other proofs go by `natural-ind`, which has the
--- cases of the remainder, and by `rounds-down` and `rounds-up`.
+-- Laws of rounding: `nearest` gives a nearest whole number, and of two the even one (`nearest_is`). No other number is that
+-- (`nearest-only`). The opposite number rounds to the opposite result (`nearest_opposite`). Other proofs go by `natural_ind`, which has the
+-- cases of the remainder, and by `rounds_down` and `rounds_up`.
 use mathlib.Core.Path.{◌≡◌, refl, sym, ap}
 use Prim.Native.Nat.{ℕ, zero, suc, ◌+◌, ◌-◌, ◌*◌, ◌/◌, ◌%◌, ◌<◌, ◌≤◌}
 use native.Mathlib.Omega.{arith}

@@ -1,6 +1,6 @@
 -- Document 02, Q-5, "Sums carried between rounds": what each round of rejection is given, and what it hands on. The number of rounds is
--- that of `Rejection`. `proofs/Carried` proves that the words and the removals "come out as before" too: `given-own`, `last-standing`,
--- `removed-as-before`.
+-- that of `Rejection`. `proofs/Carried` proves that the words and the removals "come out as before" too: `given_own`, `last_standing`,
+-- `removed_as_before`.
 use Rattle.std.specs.Prelude.{◌≡◌, Bool, List, [], ◌∷◌, ℕ, zero, suc, ◌+◌, ◌-◌, ◌<◌, length, ℤ, ◌-ℤ◌}
 use Rattle.rules.specs.Choice.{choose}
 use Rattle.rules.specs.Limits.{Sums, sum_of, sum_of_squares, sums_of, beyond_control}
@@ -48,8 +48,8 @@ unfoldable pub given_to_rounds : ℕ → List ℤ → List Given
 given_to_rounds kind words = in_rounds (rejection kind words).rounds (handed_on kind) (with_own_sums words)
 
 -- gs is what the rounds are given, if the first is given g: each round after it is given what the one before hands on, and the first that
--- removes nothing is the last. For the words with their own sums `given_to_rounds` has this property (`are-given`), and no other list has it
--- (`given-only`)
+-- removes nothing is the last. For the words with their own sums `given_to_rounds` has this property (`are_given`), and no other list has it
+-- (`given_only`)
 pub data AreGiven (kind : ℕ) : Given → List Given → Type 0 where
   last : {g : Given} → length (handed_on kind g).words ≡ length g.words → AreGiven kind g (g ∷ [])
   more : {g : Given} {gs : List Given} → length (handed_on kind g).words < length g.words → AreGiven kind (handed_on kind g) gs
@@ -57,7 +57,7 @@ pub data AreGiven (kind : ℕ) : Given → List Given → Type 0 where
 
 -- ---- terms of the laws
 
--- "the words then standing" in each round of rejection, by document 01. `given-own` proves "for every round that what it is given equals T
+-- "the words then standing" in each round of rejection, by document 01. `given_own` proves "for every round that what it is given equals T
 -- and Q of the words then standing"
 unfoldable pub standing_in_rounds : ℕ → List ℤ → List (List ℤ)
 standing_in_rounds kind words = in_rounds (rejection kind words).rounds (after_round kind) words

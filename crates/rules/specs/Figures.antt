@@ -3,8 +3,7 @@
 -- `control_chart`.
 use Rattle.std.specs.Prelude.{Bool, true, false, List, [], ◌∷◌, ◌++◌, map, ℕ, ◌+◌, ◌*◌, ◌-◌, replicate, ℤ, pos, negsuc}
 use Rattle.rules.specs.Outcome.{Outcome, given, refused}
-use Rattle.rules.specs.Reading.{Reading}
-use Rattle.rules.specs.Word.{word_alone}
+use Rattle.rules.specs.Word as word
 use Rattle.rules.specs.Limits.{Sums, sums_of, v_of, Limits, limits_of, beyond_control, beyond_warning}
 use Rattle.rules.specs.Limits.{beyond_upper_control, beyond_lower_control, beyond_upper_warning, beyond_lower_warning}
 use Rattle.rules.specs.Rejection.{RejectionAnswer, rejection}
@@ -16,9 +15,9 @@ use Rattle.rules.specs.Building as build
 use Rattle.rules.specs.Verdict.{trend_test, side_test}
 use Rattle.rules.specs.Machine as machine
 use Rattle.rules.specs.StoredForm.{stored_form}
+use Rattle.rules.specs.ReadForm as read
 use Rattle.rules.specs.Double.{parts_in}
 use Rattle.rules.specs.ChartLines.{Lines, duplicate, two_sided, lines_of}
-use Rattle.rules.specs.Lists.{words_start, bytes_start}
 
 pub record Row : Type 0 where
   pub defined : List ℤ
@@ -54,33 +53,36 @@ truth false = pos 0
 truth true = pos 1
 
 -- the verdict of a post; 1 for a reanalysis that passed, 0 for one that failed. Any other answer, also a refusal, becomes −1
-abbrev pub verdict_number : Outcome machine.Answer → ℤ
-verdict_number (given (machine.judged w v)) = pos v
-verdict_number (given (machine.reanalysed w passed)) = truth passed
-verdict_number (given machine.corrected) = negsuc 0
-verdict_number (given (machine.renewed rounds removed)) = negsuc 0
-verdict_number (refused n) = negsuc 0
+abbrev pub verdict_number : machine.Answer → ℤ
+verdict_number (machine.judged w v) = pos v
+verdict_number (machine.reanalysed w passed) = truth passed
+verdict_number machine.corrected = negsuc 0
+verdict_number (machine.renewed rounds removed) = negsuc 0
+verdict_number (machine.refused n) = negsuc 0
 
--- these numbers for each call of a list, from the machine's start. A refused start gives no numbers
-abbrev pub verdicts_from : Outcome State → List machine.Call → List ℤ
-verdicts_from (given s) calls = map verdict_number (machine.answers s calls)
-verdicts_from (refused n) calls = []
+-- these numbers for each call of a list. The first call takes the chart from building. A refused building gives no numbers
+abbrev pub verdicts_of : Outcome build.BuiltState → List machine.Call → List ℤ
+verdicts_of (given b) calls = map verdict_number (machine.answers b.state calls)
+verdicts_of (refused n) calls = []
 
--- rounds and number removed of a renewal
-abbrev pub count_numbers : machine.Answer → List ℤ
-count_numbers (machine.judged w v) = []
-count_numbers (machine.reanalysed w passed) = []
-count_numbers machine.corrected = []
-count_numbers (machine.renewed rounds removed) = pos rounds ∷ pos removed ∷ []
+-- the same for a chart that was read
+abbrev pub verdicts_after_reading : Outcome State → List machine.Call → List ℤ
+verdicts_after_reading (given s) calls = map verdict_number (machine.answers s calls)
+verdicts_after_reading (refused n) calls = []
 
--- these, and the base after it. A refusal becomes its number, and the base is not told
-abbrev pub renewal_numbers : Outcome machine.Next → List ℤ
-renewal_numbers (given next) = count_numbers next.answer ++ next.state.base
-renewal_numbers (refused n) = pos n ∷ []
+-- rounds and number removed of a renewal, and the base after it. A refusal becomes its number, and the base is not told
+abbrev pub renewal_numbers : machine.Answer → List ℤ → List ℤ
+renewal_numbers (machine.judged w v) base = []
+renewal_numbers (machine.reanalysed w passed) base = []
+renewal_numbers machine.corrected base = []
+renewal_numbers (machine.renewed rounds removed) base = pos rounds ∷ pos removed ∷ base
+renewal_numbers (machine.refused n) base = pos n ∷ []
 
 -- a renewal of the free chart with this base and this series, of kind 1
 abbrev pub renewal_of : List ℤ → List ℤ → List ℤ
-renewal_of base series = renewal_numbers (machine.step (state 1 base series 0 0) machine.renewal)
+renewal_of base series =
+    let next = machine.step (state 1 base series 0 0) machine.renewal in
+    renewal_numbers next.answer next.state.base
 
 -- lines times 256, from the lowest to the highest
 abbrev pub lines_numbers : Lines → List ℤ
@@ -134,24 +136,20 @@ edge test on outside = truth (test on) ∷ truth (test outside) ∷ []
 
 -- ---- calls
 
--- the reading with these numbers
-abbrev pub reading : ℕ → ℤ → ℤ → ℤ → Reading
-reading kind first second third = record { kind = kind; first = first; second = second; third = third }
-
 -- a post of kind 2 whose word is w, and such a reanalysis: found w, made up 10000
 abbrev pub check_post : ℕ → machine.Call
-check_post w = machine.post (reading 2 (pos w) (pos 10000) (pos 0))
+check_post w = machine.post 2 (pos w) (pos 10000) (pos 0)
 
 abbrev pub check_reanalysis : ℕ → machine.Call
-check_reanalysis w = machine.reanalysis (reading 2 (pos w) (pos 10000) (pos 0))
+check_reanalysis w = machine.reanalysis 2 (pos w) (pos 10000) (pos 0)
 
 -- a post of kind 1 whose word is w: X1 and X2 lie w above and w below 20000
 abbrev pub duplicate_post : ℕ → machine.Call
-duplicate_post w = machine.post (reading 1 (pos (20000 + w)) (pos (20000 - w)) (pos 0))
+duplicate_post w = machine.post 1 (pos (20000 + w)) (pos (20000 - w)) (pos 0)
 
 -- calls on the chart that is built from base A
 abbrev pub verdicts_on_a : List machine.Call → List ℤ
-verdicts_on_a calls = verdicts_from (words_start 2 base_a) calls
+verdicts_on_a calls = verdicts_of (build.building 2 base_a) calls
 
 -- seven words from w on, in steps of ten
 abbrev pub seven_in_tens : ℕ → List ℕ
@@ -161,10 +159,10 @@ unfoldable pub table : List Row
 table =
     -- "X1 1, X2 2: 6667." Document 02, Q-3: "65 and 63 give 312, the spike 0, 1, 32 gives −312, and 200005 over 100000 gives 20000". Before
     -- it they were 313, −313 and refusal 7
-    record { defined = word_numbers (word_alone (reading 1 (pos 1) (pos 2) (pos 0))); figure = pos 6667 ∷ [] }
-    ∷ record { defined = word_numbers (word_alone (reading 1 (pos 65) (pos 63) (pos 0))); figure = pos 312 ∷ [] }
-    ∷ record { defined = word_numbers (word_alone (reading 3 (pos 0) (pos 1) (pos 32))); figure = negsuc 311 ∷ [] }
-    ∷ record { defined = word_numbers (word_alone (reading 3 (pos 200005) (pos 0) (pos 100000))); figure = pos 20000 ∷ [] }
+    record { defined = word_numbers (word.word_alone 1 (pos 1) (pos 2) (pos 0)); figure = pos 6667 ∷ [] }
+    ∷ record { defined = word_numbers (word.word_alone 1 (pos 65) (pos 63) (pos 0)); figure = pos 312 ∷ [] }
+    ∷ record { defined = word_numbers (word.word_alone 3 (pos 0) (pos 1) (pos 32)); figure = negsuc 311 ∷ [] }
+    ∷ record { defined = word_numbers (word.word_alone 3 (pos 200005) (pos 0) (pos 100000)); figure = pos 20000 ∷ [] }
     -- "A: mean 10000, S 100": T is n·10000, and V is n(n − 1)·100²
     ∷ record { defined = sums_numbers (sums_of base_a); figure = pos 15 ∷ pos (15 * 10000) ∷ pos (15 * 14 * 100 * 100) ∷ [] }
     -- "limits 9700, 9800, 10200, 10300": the lower and the upper control limit, the lower and the upper warning limit. Then `beyond_control`
@@ -184,7 +182,7 @@ table =
     ∷ record { defined = edge (beyond_control (limits_of 1 (replicate 14 (pos 1000)))) (pos 1000) (pos 1001); figure = pos 0 ∷ pos 1 ∷ [] }
     -- "Post 1001: 1." Document 02, Q-4: "Stored charts with a base of 10 to 14 are still read and posted to", so the chart is read
     ∷ record {
-      defined = verdicts_from (bytes_start (stored_form (fresh 1 (replicate 14 (pos 1000))))) (duplicate_post 1001 ∷ []);
+      defined = verdicts_after_reading (read.reading (stored_form (fresh 1 (replicate 14 (pos 1000))))) (duplicate_post 1001 ∷ []);
       figure = pos 1 ∷ [];
     }
     -- "A, post 10300: 0 (first point)." "Post 10301: 1."

@@ -2,12 +2,12 @@
 -- from an accepted start. `Lists` defines the starts after building and reading. The machine never answers 14: that refusal is about the
 -- program's chart (`chart/specs/Calls`). From a sound start every state of a run is sound (`proofs/Machine`), so 14 never applies to a
 -- chart of the run.
-use Rattle.std.specs.Prelude.{Bool, List, [], ◌∷◌, ◌++◌, ℕ, ◌+◌, length, leb, ltb, eqb, ℤ}
+use Rattle.std.specs.Prelude.{Bool, List, [], ◌∷◌, ◌++◌, ℕ, zero, suc, ◌+◌, length, leb, ltb, eqb, ℤ}
 use Rattle.rules.specs.Choice.{require, choose}
-use Rattle.rules.specs.Outcome.{Outcome, given, refused, and_then, unless_number}
+use Rattle.rules.specs.Outcome.{Outcome, given}
+use Rattle.rules.specs.Outcome as outcome
 use Rattle.rules.specs.Sizes.{base_wanted, series_most}
-use Rattle.rules.specs.Reading.{Reading}
-use Rattle.rules.specs.Word.{from_reading}
+use Rattle.rules.specs.Word as word
 use Rattle.rules.specs.Rejection.{RejectionAnswer, rejection}
 use Rattle.rules.specs.LastWords.{last_words}
 use Rattle.rules.specs.Tail.{Tail, of_words, no_tail, shortest_tail}
@@ -17,22 +17,28 @@ use Rattle.rules.specs.Reanalysis.{passes}
 
 -- "A post and a reanalysis bring a kind and three numbers, a correction and a renewal nothing."
 pub data Call : Type 0 where
-  post : Reading → Call
-  reanalysis : Reading → Call
+  post : (kind : ℕ) (a b c : ℤ) → Call
+  reanalysis : (kind : ℕ) (a b c : ℤ) → Call
   correction : Call
   renewal : Call
 
--- a post answers "word and verdict", a reanalysis "the word and passed or failed", a renewal "rounds and number removed"
+-- a post answers "word and verdict", a reanalysis "the word and passed or failed", a renewal "rounds and number removed"; "A refusal
+-- carries no word, verdict, count or line"
 pub data Answer : Type 0 where
   judged : (w : ℤ) (v : ℕ) → Answer
   reanalysed : (w : ℤ) (passed : Bool) → Answer
   corrected : Answer
   renewed : (rounds removed : ℕ) → Answer
+  refused : ℕ → Answer
 
--- the next state and the answer of a call that is not refused
+-- the next state and the answer
 pub record Next : Type 0 where
   pub state : State
   pub answer : Answer
+
+-- "A refused call changes nothing."
+abbrev pub declined : State → ℕ → Next
+declined s n = record { state = s; answer = refused n }
 
 -- ---- refusals that come first, before the call's reading and before rejection: the first number that applies, or 0 if none does
 
@@ -54,16 +60,21 @@ renewal_refusal s =
     require (eqb s.status 0) 8 (require (leb base_wanted (length s.base + length s.series)) 12 0)
 
 abbrev pub refusal_for : State → Call → ℕ
-refusal_for s (post r) = post_refusal s
-refusal_for s (reanalysis r) = reanalysis_refusal s
+refusal_for s (post kind a b c) = post_refusal s
+refusal_for s (reanalysis kind a b c) = reanalysis_refusal s
 refusal_for s correction = correction_refusal s
 refusal_for s renewal = renewal_refusal s
 
 -- ---- what a call does if none of these applies
 
 -- the word of a reading: 4 "reading of another kind than the chart", then 5, 6, 7
-unfoldable pub word_for : ℕ → Reading → Outcome ℤ
-word_for chart_kind r = require (eqb r.kind chart_kind) (refused 4) (from_reading r)
+unfoldable pub word_for : ℕ → ℕ → ℤ → ℤ → ℤ → Outcome ℤ
+word_for chart_kind kind a b c = require (eqb kind chart_kind) (outcome.refused 4) (word.from_reading kind a b c)
+
+-- the next state and answer for the word formed, or the refusal if none is formed
+abbrev pub if_formed : State → Outcome ℤ → (ℤ → Next) → Next
+if_formed s (given w) next = next w
+if_formed s (outcome.refused n) next = declined s n
 
 -- "Post forms the word, adds it to the series, and answers word and verdict"; the verdict sets the status. Document 02, Q-1: "The machine
 -- judges in the new order throughout." That is the order of `verdict`
@@ -91,39 +102,34 @@ renewed_by s r = record { state = fresh s.kind r.base; answer = renewed r.rounds
 
 -- document 02, Q-4: "Rounds and removals are those of the tail used." A renewal "is refused if no tail will do". The number is 16, "after
 -- 12 in renewal"
-abbrev pub renewed_by_tail : State → Tail → Outcome Next
-renewed_by_tail s (of_words k) = given (renewed_by s (rejection s.kind (last_words k (s.base ++ s.series))))
-renewed_by_tail s no_tail = refused 16
+abbrev pub renewed_by_tail : State → Tail → Next
+renewed_by_tail s (of_words k) = renewed_by s (rejection s.kind (last_words k (s.base ++ s.series)))
+renewed_by_tail s no_tail = declined s 16
 
 -- "Renewal uses the shortest tail of base and series, .. of which at least 15 stand after rejection". The series follows the base
-unfoldable pub renewing : State → Outcome Next
+unfoldable pub renewing : State → Next
 renewing s = renewed_by_tail s (shortest_tail s.kind (s.base ++ s.series))
 
-abbrev pub performed : State → Call → Outcome Next
-performed s (post r) = and_then (word_for s.kind r) (λ (w : ℤ). given (posting s w))
-performed s (reanalysis r) = and_then (word_for s.kind r) (λ (w : ℤ). given (reanalysing s w))
-performed s correction = given (correcting s)
+abbrev pub performed : State → Call → Next
+performed s (post kind a b c) = if_formed s (word_for s.kind kind a b c) (posting s)
+performed s (reanalysis kind a b c) = if_formed s (word_for s.kind kind a b c) (reanalysing s)
+performed s correction = correcting s
 performed s renewal = renewing s
 
 -- ---- one step, and a list of calls
 
-unfoldable pub step : State → Call → Outcome Next
-step s call = unless_number (refusal_for s call) (performed s call)
+abbrev pub unless_refused : State → ℕ → Next → Next
+unless_refused s zero next = next
+unless_refused s (suc n) next = declined s (suc n)
 
--- "A refused call changes nothing."
-abbrev pub state_after : State → Outcome Next → State
-state_after s (given next) = next.state
-state_after s (refused n) = s
-
--- "A refusal carries no word, verdict, count or line"
-abbrev pub answer_in : Outcome Next → Outcome Answer
-answer_in o = and_then o (λ (next : Next). given next.answer)
+unfoldable pub step : State → Call → Next
+step s call = unless_refused s (refusal_for s call) (performed s call)
 
 -- "The list may be empty." "The machine is fed its start and what the calls bring, never the program's chart or answers."
 unfoldable pub after : State → List Call → State
 after s [] = s
-after s (call ∷ calls) = after (state_after s (step s call)) calls
+after s (call ∷ calls) = after (step s call).state calls
 
-unfoldable pub answers : State → List Call → List (Outcome Answer)
+unfoldable pub answers : State → List Call → List Answer
 answers s [] = []
-answers s (call ∷ calls) = answer_in (step s call) ∷ answers (state_after s (step s call)) calls
+answers s (call ∷ calls) = (step s call).answer ∷ answers (step s call).state calls

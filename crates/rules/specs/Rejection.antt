@@ -29,7 +29,7 @@ one_more_round number r = record { base = r.base; rounds = r.rounds + 1; removed
 
 -- "and the limits worked out anew from the rest": rejection "calls itself on the words left, whose number falls". So one round more than
 -- there are words is enough, and `rejection` never reaches the first clause. `proofs/Rejection` proves the two equations that a reader
--- expects, `rejection-ends` and `rejection-goes-on`
+-- expects, `rejection-ends` and `rejection_goes_on`
 unfoldable pub rejection_within : ℕ → ℕ → List ℤ → RejectionAnswer
 rejection_within zero kind words = last_round words
 rejection_within (suc allowed) kind words =

@@ -1,5 +1,5 @@
 -- The whole part of a square root. `proofs/SquareRoot` proves that it is the greatest whole number whose square is at most q (`root_is`),
--- and that no other number is (`root-only`).
+-- and that no other number is (`root_only`).
 use Rattle.std.specs.Prelude.{ℕ, zero, suc, ◌+◌, ◌*◌, ◌/◌, ◌<◌, ◌≤◌, leb}
 use Rattle.std.specs.Float.Ieee.{size}
 use Rattle.rules.specs.Choice.{choose}

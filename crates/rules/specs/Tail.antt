@@ -1,5 +1,5 @@
 -- Document 02, Q-4: the tail of base and series that a renewal uses. `proofs/Tail` proves that `shortest_tail` has the property `IsTail`
--- (`tail-is`) and that nothing else has it (`tail-only`).
+-- (`tail_is`) and that nothing else has it (`tail_only`).
 use Rattle.std.specs.Prelude.{List, ℕ, zero, suc, ◌-◌, ◌≤◌, min, length, ℤ}
 use Rattle.rules.specs.Choice.{choose}
 use Rattle.rules.specs.Sizes.{base_wanted, base_most}

@@ -82,7 +82,7 @@ verdict limits series =
     ∷ (trend_test series, 3)
     ∷ [])
 
--- the order, as a property of the verdict v. `proofs/Verdict` proves that `verdict` has it (`verdict-is`) and that no other number has
+-- the order, as a property of the verdict v. `proofs/Verdict` proves that `verdict` has it (`verdict_is`) and that no other number has
 -- (`verdict-only`)
 pub record IsVerdict (limits : Limits) (series : List ℤ) (v : ℕ) : Type 0 where
   pub control : control_test limits series ≡ true → v ≡ 1

@@ -1,5 +1,5 @@
--- Laws of a chart in hand: a start (`held-begun`), a refusal (`held-declined`), and bytes that were read (`held-read`, `held-not-read`).
--- Reading never refuses with 0 (`reading-number`), so the number 0 means that there is a start.
+-- Laws of a chart in hand: a start (`held_begun`), a refusal (`held_declined`), and bytes that were read (`held_read`, `held_not_read`).
+-- Reading never refuses with 0 (`reading_number`), so the number 0 means that there is a start.
 use mathlib.Core.Path.{◌≡◌, refl, sym, ap, ◌∙◌}
 use mathlib.Core.List.{List}
 use Prim.Native.Nat.{ℕ, ◌≤◌}

@@ -1,5 +1,4 @@
 pub mod TwoBytes
-mod Passed
 pub mod RecordsIn
 pub mod Writing
 pub mod Reading

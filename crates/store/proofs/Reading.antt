@@ -1,5 +1,5 @@
--- Laws of reading: what follows from a layout that was found (`laid_out`), the chart that three records hold (`chart-held`), and reading's
--- contract in each of its cases (`read-no-form`, `read-unsound`, `read_done`).
+-- Laws of reading: what follows from a layout that was found (`laid_out`), the chart that three records hold (`chart_held`), and reading's
+-- contract in each of its cases (`read_no_form`, `read_unsound`, `read_done`).
 use mathlib.Core.Path.{◌≡◌, refl, sym, ap, ◌∙◌}
 use mathlib.Core.Bool.{Bool, true, false}
 use mathlib.Core.List.{List, ◌++◌, map}

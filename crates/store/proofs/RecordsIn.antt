@@ -1,7 +1,7 @@
--- Laws of records in bytes: the facts that follow from the test of a record at a byte (`record-facts`), what `record_at`,
+-- Laws of records in bytes: the facts that follow from the test of a record at a byte (`record_facts`), what `record_at`,
 -- `find_record` and `lay_out` answer in each of their branches, and the numbers of a record as they are read one after the other.
 use mathlib.Core.Path.{◌≡◌, refl, sym, ap, ◌∙◌}
-use mathlib.Core.Bool.{Bool, true, false, ◌||◌, not}
+use mathlib.Core.Bool.{true, false, ◌||◌, not}
 use mathlib.Core.List.{List, [], ◌∷◌, map}
 use Prim.Native.Nat.{ℕ, zero, suc, ◌+◌, ◌*◌, ◌-◌, ◌/◌, ◌%◌, ◌<◌, ◌≤◌}
 use native.Mathlib.Omega.{arith}
@@ -10,7 +10,6 @@ use lib.IntN.{ℤ}
 use lib.ListN.{length, drop, get_or, length-drop, length-map}
 use lib.Seq.{drop-drop}
 use borrow.Author.Tests.{le-leb, ltb-true, ltb-false, eqb-true, eqb-false, eq-eqb, ne_eqb, not-true, not-false}
-use Rattle.rules.specs.Choice.{choose}
 use Rattle.rules.specs.Sizes.{base_least, base_most, series_most}
 use Rattle.rules.specs.Bytes.{number_in, word_of}
 use Rattle.rules.specs.ReadForm.{length_in, record_kind_in, count_in, is_record, starts_with}
@@ -100,7 +99,7 @@ module _ (at : ℕ) (bytes : List ℕ) where
   unfolding count_in
   record_within kind n e =
       let there = record_seen kind n e in
-      omega (arith, record_facts there.is_record_lem, there.count-is)
+      omega (arith, record_facts there.is_record_lem, there.count_is)
 
 -- ---- bytes that start with a record of a kind
 
@@ -149,7 +148,7 @@ module _ (kind least most at : ℕ) (bytes : List ℕ) where
 
     pub other_count : (ltb n least || ltb most n) ≡ true → found.Nothing ≡ record_at kind least most at bytes
     other_count h =
-        let same = (record_seen at bytes k n e).count-is in
+        let same = (record_seen at bytes k n e).count_is in
         not_found (λ s. no_count n least most h (omega (arith, s.least_count)) (omega (arith, s.most_count)))
 
     pub record_found : k ≡ kind → (ltb n least || ltb most n) ≡ false
@@ -157,7 +156,7 @@ module _ (kind least most at : ℕ) (bytes : List ℕ) where
     unfolding record_at place_at count_in
     record_found same_kind h =
         let there = record_seen at bytes k n e in
-        let same = there.count-is in
+        let same = there.count_is in
         let (enough, few) = is_count n least most h in
         let end : at + 4 + 2 * n ≡ at + (2 + length_in (drop at bytes)) = omega (arith, record_facts at bytes there.is_record_lem) in
         let starts : Starts kind least most (drop at bytes) =

@@ -1,6 +1,6 @@
--- Laws of reading what was written. It gives the same chart (`returned`), unless writing refuses (`not_written`). Two sound charts never
--- have the same bytes (`one-chart`). Writing a chart that was read gives the bytes that it was read from (`written-again`). Lists of calls
--- on such a chart are the machine's (`read-runs`).
+-- Laws of reading what was written. It gives the same chart (`returned`), unless writing refuses (`not_written_lem`). Two sound charts never
+-- have the same bytes (`one_chart`). Writing a chart that was read gives the bytes that it was read from (`written_again`). Lists of calls
+-- on such a chart are the machine's (`read_runs`).
 use mathlib.Core.Path.{◌≡◌, refl, sym, ap, ◌∙◌}
 use mathlib.Core.Bool.{Bool, true, false, ◌&&◌}
 use mathlib.Core.List.{List, ◌++◌}
@@ -13,7 +13,6 @@ use Rattle.rules.specs.Sizes.{base_most, series_most}
 use Rattle.rules.specs.State.{State}
 use Rattle.rules.specs.Machine.{Call}
 use Rattle.rules.specs.StoredForm.{stored_form, form_fits, writing, buffer_after}
-use Rattle.rules.specs.StoredForm as form
 use Rattle.rules.specs.ReadForm.{reading}
 use Rattle.rules.specs.Buffer.{Placed, at_front}
 use Rattle.rules.proofs.Buffer.{front_buffer, front_fits, front_counted, front_is}

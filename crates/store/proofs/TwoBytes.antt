@@ -1,6 +1,6 @@
--- Laws of numbers in two bytes, as the code makes them: a word's number (`bits_are`), a number's word (`word-is`), the number at a byte
--- (`number_is`), a number put by two stores (`placed-number`), words put one after the other (`words-put`, `words-then`), a record put in
--- parts (`record-placed`).
+-- Laws of numbers in two bytes, as the code makes them: a word's number (`bits_are`), a number's word (`word_is`), the number at a byte
+-- (`number_is`), a number put by two stores (`placed_number`), words put one after the other (`words_put`, `words_then`), a record put in
+-- parts (`record_placed`).
 use mathlib.Core.Path.{◌≡◌, refl, ◌∙◌}
 use mathlib.Core.List.{List, [], ◌∷◌, map, map-append}
 use Prim.Native.Nat.{ℕ, suc, ◌+◌, ◌*◌, ◌-◌, ◌/◌, ◌%◌, ◌<◌, ◌≤◌}

@@ -1,5 +1,5 @@
--- Laws of writing: the stored form's size (`form-size`, `form-within`), its three records one after the other (`form-placed`), and
--- writing's contract in each of its cases (`write-unsound`, `write-short`, `write_done`).
+-- Laws of writing: the stored form's size (`form_size_lem`, `form_within`), its three records one after the other (`form_placed`), and
+-- writing's contract in each of its cases (`write_unsound`, `write_short`, `write_done`).
 use mathlib.Core.Path.{◌≡◌, ap, ◌∙◌}
 use mathlib.Core.Bool.{true, false}
 use mathlib.Core.List.{List, ◌++◌, map, append_assoc}

@@ -6,7 +6,7 @@ use crate::{ReadAnswer, read};
 use chart::Chart;
 
 // The chart that was built or read and 0, or the chart of zeros and the number of the refusal.
-#[derive(Drop)]
+#[derive(Clone, Copy)]
 pub struct Held {
     pub chart: Chart,
     pub number: u16,

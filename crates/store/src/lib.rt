@@ -4,6 +4,8 @@
 // Writing refuses, in this order: a chart that is not sound, with 14; a buffer shorter than the stored form, with 15. A refused write does
 // not change the buffer. Reading refuses, in this order: bytes that are not the three records, with 13; a chart that is not sound, with 14.
 // It decides 13 before it tests any content. A refused read gives the chart of zeros.
+#![tactic(auto)]
+
 pub mod held;
 mod numbers;
 mod reader;
@@ -27,27 +29,27 @@ use numbers::word_of;
 use reader::{BEFORE_NUMBERS, Cursor};
 use records::{Found, Place, find_record, nth_number, put_record};
 
-#[derive(Drop)]
+#[derive(Clone, Copy)]
 pub enum WriteAnswer {
     // The number of bytes.
     Done(usize),
     Refused(u16),
 }
 
-#[derive(Drop)]
+#[derive(Clone, Copy)]
 pub enum ReadAnswer {
     Done,
     Refused(u16),
 }
 
-#[derive(Drop)]
+#[derive(Clone, Copy)]
 pub struct ReadChart {
     pub chart: Chart,
     pub answer: ReadAnswer,
 }
 
 // The places of the three records of a stored form.
-#[derive(Drop)]
+#[derive(Clone, Copy)]
 enum Layout {
     Form {
         head: Place,

@@ -8,20 +8,20 @@ use crate::numbers::number_at;
 // The number of bytes before a record's numbers. They hold its length and its record kind.
 pub const BEFORE_NUMBERS: usize = 4;
 
-#[derive(Drop)]
+#[derive(Clone, Copy)]
 pub struct Cursor {
     pub at: usize,
 }
 
 // The record kind of the record at a cursor, and how many numbers it has.
-#[derive(Drop)]
+#[derive(Clone, Copy)]
 pub enum Seen {
     Record { kind: u16, count: usize },
     // The bytes there are not a record.
     Nothing,
 }
 
-#[derive(Drop)]
+#[derive(Clone, Copy)]
 pub struct Reader<'a> {
     pub bytes: &'a [u8],
     pub cursor: Cursor,

@@ -11,14 +11,14 @@ use crate::numbers::{number_at, put_number, put_word_numbers};
 use crate::reader::{BEFORE_NUMBERS, Cursor, Seen, see_record_at};
 
 // The place of a record in the bytes: the byte at which its first number begins, how many numbers it has, and the byte after the record.
-#[derive(Drop)]
+#[derive(Clone, Copy)]
 pub struct Place {
     pub first: usize,
     pub count: usize,
     pub end: usize,
 }
 
-#[derive(Drop)]
+#[derive(Clone, Copy)]
 pub enum Found {
     Record(Place),
     // There is no record, or it is not the one asked for.

@@ -2,6 +2,8 @@
 //
 // Each function puts its text at the front of the buffer and answers how many bytes it put. Bytes for which there is no room are left out.
 // 64 bytes are enough for every text.
+#![tactic(auto)]
+
 ghost use Rattle.printing.specs.Output.{Puts};
 ghost use Rattle.texts.specs.Texts.{refusal_meaning, verdict_meaning, version};
 

@@ -5,6 +5,8 @@
 // for a chart. `is_kind`, `in_range` and `all_in_range` test a kind and the range of its words, for building and soundness.
 //
 // `&` and `|` join tests and evaluate both sides. No test can overflow, and the result is the definition's own expression.
+#![tactic(auto)]
+
 ghost use Rattle.std.specs.Prelude.{◌≡◌, true, ◌+◌, ◌-◌, ◌^◌, ◌≤◌, ◌<◌};
 ghost use Rattle.rules.specs.Kind.{is_kind, in_range};
 ghost use Rattle.rules.specs.Building.{all_in_range};
@@ -22,14 +24,14 @@ const WORD_MOST: i64 = 20000;
 
 const READING_MOST: i64 = 1000000000;
 
-#[derive(Drop)]
+#[derive(Clone, Copy)]
 pub enum Formed {
     Word(i16),
     Refused(u16),
 }
 
 // A quotient before rounding, with the sign and the magnitude of its numerator.
-#[derive(Drop)]
+#[derive(Clone, Copy)]
 struct Quotient {
     negative: bool,
     numerator: u64,

@@ -1,0 +1,18 @@
+-- `chart::Chart::post` meets its contract: 14 first, and then the call on a sound chart.
+use mir.Facts.{to_z-of_z}
+use Rattle.rules.proofs.Booleans.{answered_no, answered_yes}
+use Rattle.chart.specs.Calls.{post_says}
+use Rattle.chart.proofs.Calls.{not_sound}
+use Rattle.chart.proofs.Chart.post.Goals as goal
+
+pub returns-then-not-sound : goal.returns-then-not-sound
+unfolding post_says
+returns-then-not-sound c = not_sound (answered_no c.sound.ensures c.if-not-sound.true)
+
+pub post_sound-requires : goal.post_sound-requires
+post_sound-requires c = answered_yes c.sound.ensures c.if-not-sound.false
+
+pub returns : goal.returns
+returns c =
+    let fits = c.ranges in
+    rw (to_z-of_z fits.a, to_z-of_z fits.b, to_z-of_z fits.c) at c.post_sound.ensures

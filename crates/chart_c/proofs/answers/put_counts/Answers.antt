@@ -1,0 +1,10 @@
+-- `chart_c::answers::put_counts` meets its contract.
+use mathlib.Core.Path.{refl}
+use Rattle.chart_c.proofs.Places.{filled, not_filled}
+use Rattle.chart_c.proofs.answers.put_counts.Goals as goal
+
+pub returns-in-Done : goal.returns-in-Done
+returns-in-Done c = filled _ _ _ _ _ _ c.in-Done.is refl refl
+
+pub returns-in-Refused : goal.returns-in-Refused
+returns-in-Refused c = not_filled _ _ _ _ _ c.in-Refused.is

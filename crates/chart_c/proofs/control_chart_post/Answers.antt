@@ -1,0 +1,11 @@
+-- `chart_c::control_chart_post` meets its contract.
+use mir.Facts.{to_z-of_z}
+use Rattle.chart_c.specs.Calls.{call_says}
+use Rattle.chart_c.proofs.Places.{leaves}
+use Rattle.chart_c.proofs.control_chart_post.Goals as goal
+
+pub returns : goal.returns
+unfolding call_says
+returns c =
+    let fits = c.ranges in
+    leaves _ (rw (to_z-of_z fits.a, to_z-of_z fits.b, to_z-of_z fits.c) at c.call_on.ensures) c.put_judged.ensures

@@ -1,0 +1,24 @@
+-- `commands::faults::field_fault` meets its contract.
+use borrow.Author.Tests.{not-true, not-false}
+use Rattle.parsing.specs.Number.{number_says}
+use Rattle.commands.specs.Answers.{fault_at}
+use Rattle.commands.proofs.faults.field_fault.Goals as goal
+
+pub returns-then-not-n : goal.returns-then-not-n
+unfolding fault_at
+returns-then-not-n c = rw (not-true c.args.n.present c.if-not-n.true)
+
+pub returns-in-NoNumber : goal.returns-in-NoNumber
+unfolding fault_at number_says
+returns-in-NoNumber c =
+    rw (not-false c.args.n.present c.if-not-n.false, c.in-NoNumber.is)
+
+pub returns-in-Beyond : goal.returns-in-Beyond
+unfolding fault_at number_says
+returns-in-Beyond c =
+    rw (not-false c.args.n.present c.if-not-n.false, c.in-Beyond.is)
+
+pub returns-in-Whole : goal.returns-in-Whole
+unfolding fault_at number_says
+returns-in-Whole c =
+    rw (not-false c.args.n.present c.if-not-n.false, c.in-Whole.is)
