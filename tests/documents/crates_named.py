@@ -6,7 +6,8 @@ CRATES = "crates.txt"
 README = "README.md"
 LIBRARY = "docs/LIBRARY.md"
 
-LINE = re.compile(r"([a-z_0-9]+):")
+# `words: rules`, or of a static library `words_c staticlib: words rules`.
+LINE = re.compile(r"([a-z_0-9]+)(?: [^:#]*)?:")
 
 
 def crates_in(text):

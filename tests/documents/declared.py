@@ -1,6 +1,7 @@
 """What the crates declare: names of definitions and laws (.antt), of functions and types (.rt), and must-fail edits.
 
-Only a declaration counts, not a mention.
+Only a declaration counts, not a mention: not a name in a clause (`ensures { .. }`), in a `ghost use` line or in a comment. What the proof
+of a function declares (its goals and its invariants, in proofs/FUNCTION) counts only where the file is named.
 """
 
 import glob
@@ -13,7 +14,12 @@ File = namedtuple("File", "names items members")
 
 ANTT_MODIFIERS = re.compile(r"^(?:(?:pub|abbrev|unfoldable) +)+")
 ANTT_TYPE = re.compile(r"(?:data|record) +([^\s:]+)")
-ANTT_NAMES = re.compile(r"([^\s:=(){}]+(?: +[^\s:=(){}]+)*) +:(?: |$)")
+# Between the names and the colon there may be parameters, as in `either {ℓ} : ..`.
+PARAMETER = r"\{[^{}]*\}|\((?:[^()]|\([^()]*\))*\)"
+ANTT_NAMES = re.compile(r"([^\s:=(){}]+(?: +[^\s:=(){}]+)*)(?: +(?:%s))* +:(?: |$)" % PARAMETER)
+
+# The files of the proof of one function. A function whose proof the checker finds by itself has none.
+OF_FUNCTION = ("Answers", "Invariants", "Proof")
 
 RT_ITEM = re.compile(r'^( *)(?:pub +)?(?:extern +"C" +)?(fn|struct|enum|const|mod) +(\w+)', re.MULTILINE)
 RT_IMPL = re.compile(r"^impl(?:<[^>]*>)? +(\w+)[^{]*\{(.*?)^\}", re.MULTILINE | re.DOTALL)
@@ -30,7 +36,12 @@ class Crate:
         self.edits = {stem(path) for path in glob.glob(os.path.join(glob.escape(folder), "must-fail", "*.edit"))}
 
     def files(self):
-        return [*self.specs.values(), *self.proofs.values(), *self.modules.values()]
+        """The files with definitions, laws and code."""
+        return [*self.specs.values(), *(self.proofs[path] for path in self.laws()), *self.modules.values()]
+
+    def laws(self):
+        """The paths of the files of proofs that are not of one function."""
+        return [path for path in self.proofs if not (os.path.dirname(path) and stem(path) in OF_FUNCTION)]
 
     def members(self, name):
         """The fields, cases and functions of a type of the code, from all modules; None if there is no such type."""
@@ -50,7 +61,7 @@ class Crates(dict):
         """All names that are declared anywhere, the names of the files of definitions and laws, and the edits."""
         found = set(self)
         for crate in self.values():
-            found.update(crate.edits, (stem(path) for path in [*crate.specs, *crate.proofs]))
+            found.update(crate.edits, (stem(path) for path in [*crate.specs, *crate.laws()]))
             found.update(*(file.names for file in crate.files()))
         return found
 

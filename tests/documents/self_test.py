@@ -59,7 +59,7 @@ echo '# a remark'
 BENCH = """\
 # Bench
 
-[MUST-FAIL](MUST-FAIL.md), [CHANGES](CHANGES.md), [PERFORMANCE](PERFORMANCE.md), [REFUSALS](REFUSALS.md).
+[MUST-FAIL](MUST-FAIL.md), [CHANGES](CHANGES.md), [PERFORMANCE](PERFORMANCE.md), [REFUSALS](REFUSALS.md), [PORT](PORT.md).
 
 | Command | Answer |
 |---|---|
@@ -94,10 +94,10 @@ CLAIMS = """\
 
 ## Demand 3: one claim over whole lists
 
-Definition: `Word.nearest`, `IsNearest`; `rules/specs/Word`: `close`, `nearest`. Law: `Word.nearest-is`.
+Definition: `Word.nearest`, `IsNearest`; `rules/specs/Word`: `close`, `nearest`. Law: `Word.nearest_is`.
 Contract: `words::word`, `all_words`, `words::Formed::Word(i16)`, `rounding::half`, `Formed::Refused`, `Limits.low`,
 `Limits::MOST`. Others: `words/specs/Formed.Says.refused`, `Word.nearest z d`; `inner`; `word W`; `show`; `crates/*/src`;
-`Word.antt`; `rules/must-fail`: `cut_off`; `words/turned`; `built
+`Word.antt`; `words/proofs/word/Answers.returns`; `rules/must-fail`: `cut_off`; `words/turned`; `built
 rounds R removed M`. See [demand 3](#demand-3-one-claim-over-whole-lists).
 %s
 
@@ -214,7 +214,9 @@ esac
 """ % (interface.VERSION, WORDS)
 
 WORD_SPECS = """\
--- nearest-mention : only a mention
+-- nearest_mention : only a mention
+use Rattle.std.specs.Prelude.{◌≡◌, ℤ as Z}
+
 unfoldable pub nearest : Z
 nearest z d = z
 
@@ -225,7 +227,7 @@ pub record IsNearest (z : Z) : Type 0 where
 """
 
 WORD_PROOFS = """\
-pub nearest-is : Z
+pub nearest_is {ℓ} : {P : Type ℓ} → Z
 module _ (z : Z) where
   module _ (d : Z) where
     pub inner : Z
@@ -238,8 +240,22 @@ pub data Says : Type 0 where
   refused : Z
 """
 
+# The proof of a function: its goals. The other function has no file, since the checker finds its proof.
+WORD_ANSWERS = """\
+use borrow.Author.Rules.{rules}
+use Rattle.words.proofs.word.Goals as goal
+
+pub returns : goal.returns
+returns c = search rules
+"""
+
 WORDS_LIB = """\
+#![tactic(auto)]
+
 mod rounding;
+
+ghost use Rattle.std.specs.Prelude.{◌≡◌, ◌+◌};
+ghost use Rattle.rules.specs.Word.{nearest, only_in_a_use};
 
 pub enum Formed {
     Word(i16),
@@ -254,7 +270,10 @@ impl Limits {
     pub const MOST: usize = 2;
 }
 
-pub fn word(kind: u16) -> Formed {
+pub fn word(kind: u16) -> Formed
+    requires { kind + 1 ≤ only_in_a_clause }
+    ensures { result ≡ nearest kind }
+{
     // fn only_a_mention
 }
 
@@ -271,6 +290,7 @@ FILES = {
     "docs/LIBRARY.md": LIBRARY,
     "docs/MUST-FAIL.md": MUST_FAIL,
     "docs/PERFORMANCE.md": "# Performance\n",
+    "docs/PORT.md": "# Port\n\n`Word.nearest-is` is `Word.nearest_is` now, and `words::formed` is `words::word`.\n",
     "docs/REFUSALS.md": REFUSALS,
     "docs/RULES.md": RULES,
     "tests/model/README.md": "# Model\n",
@@ -285,6 +305,7 @@ FILES = {
     "crates/rules/proofs/Word.antt": WORD_PROOFS,
     "crates/rules/must-fail/cut_off.edit": "",
     "crates/words/specs/Formed.antt": FORMED,
+    "crates/words/proofs/word/Answers.antt": WORD_ANSWERS,
     "crates/words/src/lib.rt": WORDS_LIB,
     "crates/words/src/rounding.rt": "pub fn half() {}\n",
     "crates/words/must-fail/turned.edit": "",
@@ -321,9 +342,14 @@ CASES = [
     case("no heading of demand 3", links, "docs/CLAIMS.md", "Demand 3: one", "Demand 3, a", "docs/CLAIMS.md: found no heading"),
 
     case("a definition", names, "docs/CLAIMS.md", "`Word.nearest`,", "`Word.neares`,", "docs/CLAIMS.md:5: found `Word.neares`"),
-    case("a mention", names, "docs/CLAIMS.md", "`inner`", "`nearest-mention`", "docs/CLAIMS.md:7: found `nearest-mention`"),
+    case("a mention", names, "docs/CLAIMS.md", "`inner`", "`nearest_mention`", "docs/CLAIMS.md:7: found `nearest_mention`"),
     case("a mention in code", names, "docs/CLAIMS.md", "`inner`", "`only_a_mention`", "docs/CLAIMS.md:7: found `only_a_mention`"),
-    case("a law", names, "docs/CLAIMS.md", "`Word.nearest-is`", "`Word.nearest-was`", "docs/CLAIMS.md:5: found `Word.nearest-was`"),
+    case("a name of a clause", names, "docs/CLAIMS.md", "`inner`", "`only_in_a_clause`", "docs/CLAIMS.md:7: found `only_in_a_clause`"),
+    case("a name of a use line", names, "docs/CLAIMS.md", "`inner`", "`only_in_a_use`", "docs/CLAIMS.md:7: found `only_in_a_use`"),
+    case("a goal", names, "docs/CLAIMS.md", "`inner`", "`returns`", "docs/CLAIMS.md:7: found `returns`"),
+    case("a goal of a file", names, "docs/CLAIMS.md", "Answers.returns", "Answers.return", "docs/CLAIMS.md:8: found `words/proofs/"),
+    case("a file of proofs that is gone", names, "crates/words/proofs/word/Answers.antt", WORD_ANSWERS, None, "docs/CLAIMS.md:8: found"),
+    case("a law", names, "docs/CLAIMS.md", "`Word.nearest_is`", "`Word.nearest_was`", "docs/CLAIMS.md:5: found `Word.nearest_was`"),
     case("a name behind a file", names, "docs/CLAIMS.md", "`close`,", "`inner`,", "docs/CLAIMS.md:5: found `inner`"),
     case("a name behind a name", names, "docs/CLAIMS.md", "`all_words`", "`half`", "docs/CLAIMS.md:6: found `half`"),
     case("a file of definitions", names, "docs/CLAIMS.md", "`rules/specs/Word`", "`rules/specs/Ward`",
@@ -401,6 +427,8 @@ CASES = [
     case("a day that goes on", examples, "examples/day.sh", "echo '#", "echo more\necho '#", "README.md:9: found # a remark; expected more"),
 
     case("a crate without a name", crates_named, "crates.txt", "words:", "charts:", "crates.txt:3: found the crate `charts`"),
+    case("a static library without a name", crates_named, "crates.txt", "words:", "words:\ncharts staticlib:",
+         "crates.txt:4: found the crate `charts`"),
 ]
 
 

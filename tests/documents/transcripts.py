@@ -176,7 +176,7 @@ def check_table(tree, faults):
         if command not in rows:
             faults.add(BENCH, 0, "no row of the command `%s`" % command, "a table with the head Command that has it")
     if not listed:
-        faults.add("control_chart help", 0, "no table of commands", "one; rt check control_chart makes the program")
+        faults.add("control_chart help", 0, "no table of commands", "one; make target/bin/control_chart makes the program")
     return len(listed)
 
 

@@ -96,7 +96,7 @@ static void put_call(pid_t pid, const struct user_regs_struct *r, FILE *log) {
     case SYS_open: case SYS_creat: case SYS_unlink: case SYS_access: case SYS_readlink:
         put_text(pid, r->rdi, log);
         break;
-    case SYS_openat: case SYS_unlinkat: case SYS_faccessat: case SYS_readlinkat:
+    case SYS_openat: case SYS_unlinkat: case SYS_faccessat: case SYS_readlinkat: case SYS_statx:
         put_text(pid, r->rsi, log);
         break;
     case SYS_rename: case SYS_link:
