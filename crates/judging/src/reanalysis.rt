@@ -15,6 +15,7 @@ pub fn passes(l: Limits, open_verdict: u16, series: &[i16], w: i16) -> bool
 }
 
 // What the open verdict asks besides the control limits.
+#[tactic(auto, unfolding(rules::specs::Reanalysis::passes_verdict))]
 fn passes_verdict(l: Limits, open_verdict: u16, series: &[i16], w: i16) -> bool
     requires { Bounded l.sums }
     ensures { result ≡ rules.passes_verdict (limits_say l) open_verdict series.now w }

@@ -55,6 +55,7 @@ pub fn status_fits(l: Limits, series: &[i16], status: u16, open_verdict: u16) ->
     open_fits(l, series, status, open_verdict)
 }
 
+#[tactic(auto, unfolding(rules::specs::Soundness::open_fits))]
 fn open_fits(l: Limits, series: &[i16], status: u16, open_verdict: u16) -> bool
     requires { Bounded l.sums }
     ensures { result ≡ open_fits (limits_say l) series.now status open_verdict }

@@ -40,6 +40,7 @@ pub fn verdict(l: Limits, series: &[i16]) -> u16
 }
 
 // The status that a verdict sets.
+#[tactic(auto, unfolding(rules::specs::Verdict::status_for))]
 pub fn status_for(verdict: u16) -> u16
     ensures { result ≡ rules.status_for verdict }
 {
@@ -64,6 +65,7 @@ fn control_test(l: Limits, series: &[i16]) -> bool
     beyond_control(l, w)
 }
 
+#[tactic(auto, using(crate::proofs::Judging::no_warning))]
 fn warning_test(l: Limits, series: &[i16]) -> bool
     requires { Bounded l.sums }
     ensures { result ≡ rules.warning_test (limits_say l) series.now }

@@ -58,6 +58,7 @@ pub fn put_parts(out: &mut [u8], at: usize, k: i64) -> usize
 }
 
 // A minus sign, if z is below 0.
+#[tactic(auto, using(crate::proofs::Signs::held_below))]
 fn put_sign(out: &mut [u8], at: usize, z: i64) -> usize
     ensures { Puts out.old at (sign_text z) out.new result }
 {

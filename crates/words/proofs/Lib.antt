@@ -1,1 +1,2 @@
+mod Halves
 mod Readings

@@ -175,6 +175,7 @@ fn nearest(q: Quotient) -> i64
 
 // The whole quotient if the remainder is less than half of the divisor, one more if it is more than half, the even one of the two if it is
 // exactly half. What is left is compared with what is lacking to the next multiple, since twice the remainder may not fit.
+#[tactic(auto, using(crate::proofs::Halves::half_even, crate::proofs::Halves::half_odd, crate::proofs::Halves::half_small))]
 fn nearest_natural(numerator: u64, divisor: u64) -> u64
     requires { 0 < divisor }
     ensures { (result ≡ nearest_natural numerator divisor) × (result ≤ numerator) }

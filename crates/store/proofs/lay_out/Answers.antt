@@ -57,4 +57,4 @@ returns c =
     let series : Place = c.in-Record-find_record-2.series in
     let found_series : found.Record series ≡ record_at 3 0 series_most base.end bytes =
     sym c.in-Record-find_record-2.is ∙ c.find_record-3.ensures in
-    form_there bytes head found_head base found_base series found_series (omega (arith, c.if-series-bytes.false))
+    form_there bytes head found_head base found_base series found_series (omega arith)

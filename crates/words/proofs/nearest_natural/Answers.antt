@@ -27,24 +27,3 @@ returns-then-lacking-left c =
     let a = c.args in one_more_small a.numerator a.divisor c.requires (omega arith) in
     let a = c.args in
     (rounds_up a.numerator a.divisor c.requires (omega arith) (λ half. absurd (omega arith)), one_more)
-
-pub overflow_add-result-else-whole-eq0 : goal.overflow_add-result-else-whole-eq0
-overflow_add-result-else-whole-eq0 c =
-    let one_more : c.args.numerator / c.args.divisor + 1 ≤ c.args.numerator =
-    let a = c.args in one_more_small a.numerator a.divisor c.requires (omega arith) in
-    omega (arith, one_more)
-
--- exactly half is left
-pub returns-then-whole-eq0 : goal.returns-then-whole-eq0
-returns-then-whole-eq0 c =
-    let a = c.args in
-    (rounds_down a.numerator a.divisor (omega arith) (λ half. c.if-whole-eq0.true), div-le_self a.numerator a.divisor)
-
-pub returns-else-whole-eq0 : goal.returns-else-whole-eq0
-returns-else-whole-eq0 c =
-    let one_more : c.args.numerator / c.args.divisor + 1 ≤ c.args.numerator =
-    let a = c.args in one_more_small a.numerator a.divisor c.requires (omega arith) in
-    let a = c.args in (
-      rounds_up a.numerator a.divisor c.requires (omega arith) (λ half. omega (arith, c.if-whole-eq0.false)),
-      one_more,
-    )

@@ -14,7 +14,6 @@ use Rattle.rules.specs.Carried.{less_words}
 use Rattle.limits.specs.Sums.{sums_say}
 use Rattle.chart.proofs.Marks.{none_taken, can_take, turn_taken, turn_not_taken, all_taken}
 use Rattle.chart.proofs.rejection.less_marked.Goals as goal
-use Rattle.chart.proofs.rejection.less_marked.Goals.{then-marks-i, else-marks-i}
 
 pub loop-i-init : goal.loop-i-init
 loop-i-init c =
@@ -42,7 +41,7 @@ without_word-less-requires c =
     let l = c.loop-i in
     rw held
     (can_take a.marks a.words a.n a.sums many_marks many_words c.loop-i-test.true l.invariant
-    c.if-marks-i.true)
+    (search rules))
 
 pub overflow_add-i : goal.overflow_add-i
 overflow_add-i c = omega arith
@@ -60,10 +59,10 @@ loop-i-preserved c =
     let l = c.loop-i in
     let test = c.loop-i-test.true in
     elim c.if-marks-i.branch [
-      | then-marks-i w ↦ turn_taken a.marks a.words a.n a.sums many_marks many_words test l.invariant w.if-marks-i.true
+      | goal.then-marks-i w ↦ turn_taken a.marks a.words a.n a.sums many_marks many_words test l.invariant w.if-marks-i.true
           (ap sums_say w.less-is ∙ w.without_word-less.ensures ∙ ap (λ (v : ℤ). less_words (sums_say l.less) (v ∷ []))
           (to_z-of_z {w = w16} (sfits_of w.without_word-arg-1.given)))
-      | else-marks-i w ↦ turn_not_taken a.marks a.words a.n a.sums many_marks many_words test l.invariant w.if-marks-i.false w.less-is
+      | goal.else-marks-i w ↦ turn_not_taken a.marks a.words a.n a.sums many_marks many_words test l.invariant w.if-marks-i.false w.less-is
     ]
 
 pub returns : goal.returns

@@ -1,17 +1,14 @@
 -- `chart::rejection::without_marked` meets its contract. The loop's invariant: the unmarked words before i stand at the front.
 use mathlib.Core.Path.{◌≡◌, refl}
-use mathlib.Core.Bool.{false}
 use Prim.Native.Nat.{◌≤◌}
 use native.Mathlib.Omega.{arith}
 use borrow.Author.Rules.{rules}
-use lib.ListN.{length, get_or}
-use lib.IntN.{pos}
+use lib.ListN.{length}
 use Rattle.rules.specs.Sizes.{base_most}
 use Rattle.chart.specs.Pad.{pad}
 use Rattle.chart.specs.Rejection.{marked, without_marked}
 use Rattle.chart.proofs.Marks.{moved_few, turn_marked, turn_kept}
 use Rattle.chart.proofs.rejection.without_marked.Goals as goal
-use Rattle.chart.proofs.rejection.without_marked.Goals.{then-not-marks-i, else-not-marks-i}
 
 pub loop-i-init : goal.loop-i-init
 unfolding pad without_marked marked
@@ -68,17 +65,10 @@ loop-i-preserved c =
     let many_words : c.args.n ≤ length c.args.words = omega (arith, words_all, c.requires) in
     let many_marks : c.args.n ≤ length c.args.marks =
     let all : length c.args.marks ≡ base_most = search rules in omega (arith, c.requires) in
-    let few : c.loop-i.kept ≤ c.loop-i.i =
-    moved_few c.loop-i-test.true many_marks many_words (omega (arith, words_all)) c.loop-i.invariant in
+    let few : length c.args.words ≤ base_most = omega (arith, words_all) in
     let l = c.loop-i in
     let test = c.loop-i-test.true in
-    let few : length c.args.words ≤ base_most = omega (arith, words_all) in
-    let marked = get_or c.args.marks l.i false in
-    let word = get_or c.args.words l.i (pos 0) in
-    elim c.if-not-marks-i.branch [
-      | then-not-marks-i w ↦ turn_kept test many_marks many_words few l.invariant w.if-not-marks-i.true (search rules) w.kept-is
-      | else-not-marks-i w ↦ turn_marked test many_marks many_words few l.invariant w.if-not-marks-i.false w.left-is w.kept-is
-    ]
+    search (rules, turn_kept test many_marks many_words few l.invariant, turn_marked test many_marks many_words few l.invariant)
 
 pub returns : goal.returns
 returns c =

@@ -4,11 +4,8 @@ use borrow.Author.Rules.{sfits_of}
 use mir.Facts.{to_z-of_z}
 use Rattle.rules.specs.LastWords.{last_word, one_before_last}
 use Rattle.limits.specs.Sums.{limits_say}
-use Rattle.judging.proofs.Judging.{no_warning, both_beyond}
+use Rattle.judging.proofs.Judging.{both_beyond}
 use Rattle.judging.proofs.verdict.warning_test.Goals as goal
-
-pub returns-then-m-lt2 : goal.returns-then-m-lt2
-returns-then-m-lt2 c = no_warning (limits_say c.args.l) c.args.series.now (omega arith)
 
 pub returns : goal.returns
 unfolding last_word one_before_last
