@@ -1,5 +1,5 @@
 // The bytes of a file.
-ghost use Rattle.std.specs.Prelude.{◌≡◌, IfOk};
+ghost use Rattle.std.specs.Prelude.{◌≡◌, length, IfOk, OnErr};
 ghost use Rattle.io.specs.Counts.{IsPrefixLen};
 
 use std::fs::File;
@@ -17,7 +17,8 @@ pub struct FileRead {
 
 // It is no failure if there is no file.
 pub fn read_file(rt: HostRuntime, path: &[u8], held: &mut [u8]) -> Result<FileRead>
-    ensures { IfOk result (λ r. IsPrefixLen r.len held.new) }
+    ensures read { IfOk result (λ r. IsPrefixLen r.len held.new) }
+    ensures failed { OnErr result (length held.new ≡ length held.old) }
 {
     match system::open_read(rt, path) {
         Ok(file) => read_open(file, held),
@@ -46,7 +47,8 @@ fn no_file() -> FileRead
 }
 
 fn read_open(file: File, held: &mut [u8]) -> Result<FileRead>
-    ensures { IfOk result (λ r. IsPrefixLen r.len held.new) }
+    ensures read { IfOk result (λ r. IsPrefixLen r.len held.new) }
+    ensures failed { OnErr result (length held.new ≡ length held.old) }
 {
     let permissions = system::permissions_of(&file)?;
     let len = read_all(file, held)?;
@@ -59,7 +61,8 @@ fn read_open(file: File, held: &mut [u8]) -> Result<FileRead>
 
 // Reads to the end, or until the buffer is full. A read may bring less than there is.
 fn read_all(mut file: File, bytes: &mut [u8]) -> Result<usize>
-    ensures { IfOk result (λ len. IsPrefixLen len bytes.new) }
+    ensures read { IfOk result (λ len. IsPrefixLen len bytes.new) }
+    ensures failed { OnErr result (length bytes.new ≡ length bytes.old) }
 {
     let mut len: usize = 0;
     while len < bytes.len() {
