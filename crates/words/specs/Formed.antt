@@ -1,16 +1,8 @@
 -- What the types of `words` say in the paper's terms.
 use Rattle.std.specs.Prelude.{◌≡◌, Bool, true, false, ℕ, ◌≤◌, ◌<◌, ◌^◌, ℤ, pos, nat_abs, neg_ℤ}
 use Rattle.std.specs.Int.Signed.{lt_z}
-use Rattle.rules.specs.Outcome.{Outcome, given, refused}
 use Rattle.rules.specs.Word as rules
-use Rattle.words.specs.declared.Formed.{Formed}
-use Rattle.words.specs.declared.Formed.TheVariants.{Word, Refused}
 use Rattle.words.specs.declared.Quotient.{Quotient}
-
--- the word, or the refusal's number
-unfoldable pub formed_says : Formed → Outcome ℤ
-formed_says (Word w) = given w
-formed_says (Refused n) = refused n
 
 -- an integer by its sign and magnitude
 abbrev pub signed : Bool → ℕ → ℤ

@@ -13,9 +13,11 @@ ghost use Rattle.rules.specs.Building.{all_in_range};
 ghost use Rattle.rules.specs.Machine.{word_for};
 ghost use Rattle.rules.specs.Word.{is_reading, are_readings, nearest_natural, from_reading, word_alone};
 ghost use Rattle.rules.specs.Word as rules;
-ghost use Rattle.words.specs.Formed.{formed_says, signed, ReadingIs, IsQuotient};
+ghost use Rattle.refusals.specs.Refusal.{outcome_of};
+ghost use Rattle.words.specs.Formed.{signed, ReadingIs, IsQuotient};
 
 use extremes::extremes_of;
+use refusals::Refusal;
 
 // The range of words; for kind 1 it starts at 0.
 const WORD_LEAST: i64 = -20000;
@@ -23,12 +25,6 @@ const WORD_LEAST: i64 = -20000;
 const WORD_MOST: i64 = 20000;
 
 const READING_MOST: i64 = 1000000000;
-
-#[derive(Clone, Copy)]
-pub enum Formed {
-    Word(i16),
-    Refused(u16),
-}
 
 // A quotient before rounding, with the sign and the magnitude of its numerator.
 #[derive(Clone, Copy)]
@@ -38,11 +34,11 @@ struct Quotient {
     divisor: u64,
 }
 
-pub fn word(kind: u16, a: i64, b: i64, c: i64) -> Formed
-    ensures { formed_says result ≡ word_alone kind a b c }
+pub fn word(kind: u16, a: i64, b: i64, c: i64) -> Result<i16, Refusal>
+    ensures { outcome_of result ≡ word_alone kind a b c }
 {
     if !is_kind(kind) {
-        return Formed::Refused(1);
+        return Err(Refusal::NoKind);
     }
     from_reading(kind, a, b, c)
 }
@@ -55,31 +51,31 @@ pub fn is_kind(kind: u16) -> bool
 }
 
 // The word of a reading for a chart. A reading of another kind than the chart is refused with 4. Then 5, 6 and 7 apply.
-pub fn word_for(chart_kind: u16, kind: u16, a: i64, b: i64, c: i64) -> Formed
-    ensures { formed_says result ≡ word_for chart_kind kind a b c }
+pub fn word_for(chart_kind: u16, kind: u16, a: i64, b: i64, c: i64) -> Result<i16, Refusal>
+    ensures { outcome_of result ≡ word_for chart_kind kind a b c }
 {
     if kind != chart_kind {
-        return Formed::Refused(4);
+        return Err(Refusal::AnotherKind);
     }
     from_reading(kind, a, b, c)
 }
 
 // The paper's kinds are 1..3. Any other kind is treated as kind 3.
-pub fn from_reading(kind: u16, a: i64, b: i64, c: i64) -> Formed
-    ensures { formed_says result ≡ from_reading kind a b c }
+pub fn from_reading(kind: u16, a: i64, b: i64, c: i64) -> Result<i16, Refusal>
+    ensures { outcome_of result ≡ from_reading kind a b c }
 {
     if !are_readings(kind, a, b, c) {
-        return Formed::Refused(5);
+        return Err(Refusal::NoReading);
     }
     let q = quotient_of(kind, a, b, c);
     if q.divisor == 0 {
-        return Formed::Refused(6);
+        return Err(Refusal::Divisor);
     }
     let w = nearest(q);
     if !in_range(kind, w) {
-        return Formed::Refused(7);
+        return Err(Refusal::NoWord);
     }
-    Formed::Word(w as i16)
+    Ok(w as i16)
 }
 
 // The range is that of the kind's words: 0..20000 for kind 1, −20000..20000 for the others.
