@@ -4,6 +4,7 @@ use mathlib.Core.List.{List}
 use Prim.Native.Nat.{ℕ, ◌<◌, ◌≤◌}
 use native.Mathlib.Omega.{arith}
 use lib.IntN.{ℤ}
+use Rattle.std.specs.Prelude.{Ok}
 use borrow.Author.Tests.{le-leb, lt-leb}
 use Rattle.rules.specs.Outcome.{given, refused}
 use Rattle.rules.specs.Choice.{require}
@@ -16,9 +17,11 @@ use Rattle.rules.proofs.Outcome.{unless_number_lem}
 use Rattle.chart.specs.Chart.{state_of, fresh_chart, not_built, build_says, chart_after, Builds}
 use Rattle.chart.specs.Rejection.{IsRejection}
 use Rattle.chart.specs.declared.Chart.{Chart}
-use Rattle.chart.specs.declared.Built.{Built}
-use Rattle.chart.specs.declared.BuildAnswer.TheVariants.{Done}
+use Rattle.refusals.specs.Refusal.{refusal_number}
+use Rattle.refusals.specs.declared.Refusal.{Refusal}
+use Rattle.refusals.specs.declared.Refusal.TheVariants.{TooFewStand}
 use Rattle.chart.specs.declared.rejection.RejectionAnswer.{RejectionAnswer}
+use Rattle.refusals.proofs.Numbers.{refusal_not_0}
 use Rattle.chart.proofs.Rounds.{left_standing}
 use Rattle.chart.proofs.State.{state_of_chart, fresh_is}
 
@@ -36,24 +39,23 @@ accepted kind ws none = rw none
 
 -- ---- the contract of building: a refusal before rejection, and then what rejection decides
 
-not_built_lem : (kind : ℕ) (ws : List ℤ) (n : ℕ) (r : Built) → building kind ws ≡ refused n → r ≡ not_built n → Builds kind ws r
+not_built_lem : (kind : ℕ) (ws : List ℤ) (r : Refusal) → building kind ws ≡ refused (refusal_number r) → Builds kind ws (not_built r)
 unfolding chart_after build_says
-not_built_lem kind ws n r d e = rw e (record { chart = ap chart_after (sym d); says = sym d })
+not_built_lem kind ws r d = record { chart = ap chart_after (sym d); says = sym d }
 
-pub build_declined : {kind : ℕ} {ws : List ℤ} {n : ℕ} {r : Built} → n ≡ build_refusal kind ws → (n ≡ 0 → ⊥) → r ≡ not_built n
-    → Builds kind ws r
-build_declined {kind} {ws} {n} {r} e ne = not_built_lem kind ws n r (declined kind ws n e ne)
+pub build_declined : {kind : ℕ} {ws : List ℤ} {r : Refusal} → refusal_number r ≡ build_refusal kind ws → Builds kind ws (not_built r)
+build_declined {kind} {ws} {r} e = not_built_lem kind ws r (declined kind ws (refusal_number r) e (refusal_not_0 r))
 
 -- no refusal comes before rejection, and a is its answer
 module _ {kind : ℕ} {ws : List ℤ} {a : RejectionAnswer} (none : build_refusal kind ws ≡ 0) (is : IsRejection (rejection kind ws) a) where
-  pub build_too_few : a.left.n < base_wanted → {r : Built} → r ≡ not_built 16 → Builds kind ws r
-  unfolding fifteen_stand
-  build_too_few few {r} same =
+  pub build_too_few : a.left.n < base_wanted → Builds kind ws (not_built TooFewStand)
+  unfolding fifteen_stand refusal_number
+  build_too_few few =
       let few' = lt-leb base_wanted (number_standing kind ws) (omega (arith, left_standing kind ws a is)) in
-      not_built_lem kind ws 16 r (rw few' at (accepted kind ws none)) same
+      not_built_lem kind ws TooFewStand (rw few' at (accepted kind ws none))
 
   pub build_accepted : base_wanted ≤ a.left.n → {c : Chart} → c ≡ fresh_chart kind a.left.words a.left.n
-      → Builds kind ws (record { chart = c; answer = Done a.rounds a.removed })
+      → Builds kind ws (record { chart = c; answer = Ok (record { rounds = a.rounds; removed = a.removed }) })
   unfolding fifteen_stand chart_after build_says
   build_accepted enough {c} f =
       let enough' = le-leb base_wanted (number_standing kind ws) (omega (arith, left_standing kind ws a is)) in

@@ -25,22 +25,8 @@ use Rattle.chart.specs.Chart.{state_of, chart_of, with_status, fresh_chart}
 use Rattle.chart.specs.Rejection.{IsRejection}
 use Rattle.chart.specs.Tail.{rejection_of, tail_rejection}
 use Rattle.chart.specs.Soundness.{sound_chart, HasRoom, HasLast}
-use Rattle.chart.specs.Calls.{next_chart, answer_to, Gives, Does, word_unless}
+use Rattle.chart.specs.Calls.{next_chart, answer_to, Gives, Does}
 use Rattle.chart.proofs.State.{Given, chart_of-state, series_count_lem, some_series, fresh_is}
-
--- ---- a reading comes after the refusals that come first
-
--- a number that is not 0 comes before the reading. If it is 0, the reading decides
-pub number_first : (n chart_kind kind : ℕ) (a b c : ℤ) → (n ≡ 0 → ⊥) → outcome.refused n ≡ word_unless n chart_kind kind a b c
-unfolding word_unless
-number_first zero chart_kind kind a b c ne = absurd (ne refl)
-number_first (suc n) chart_kind kind a b c ne = refl
-
-pub reading_then : (n chart_kind kind : ℕ) (a b c : ℤ) → n ≡ 0 → (f : Outcome ℤ) → f ≡ word_for chart_kind kind a b c
-    → f ≡ word_unless n chart_kind kind a b c
-unfolding word_unless
-reading_then zero chart_kind kind a b c z f e = e
-reading_then (suc n) chart_kind kind a b c z f e = absurd (omega arith)
 
 -- ---- one step of the machine
 
@@ -83,32 +69,20 @@ module _ (c : Chart) (g : Given c) where
 
 -- ---- a call that brings a reading. `next` is what the machine does with the word of the reading
 
--- what comes of the word formed, or of the refusal
-abbrev pub Reads : Chart → Call → (ℤ → Next) → Outcome ℤ → Type 0
-Reads c call next (given w) = Performs c call (next w)
-Reads c call next (outcome.refused n) = Gives c call c (refused n)
-
--- the number of a refusal, and 0 for a word
-abbrev refusal_of : Outcome ℤ → ℕ
-refusal_of (given w) = 0
-refusal_of (outcome.refused n) = n
-
 module _ (c : Chart) (g : Given c) (call : Call) (kind : ℕ) (a b x : ℤ) (next : ℤ → Next)
-    (p : performed (state_of c) call ≡ if_formed (state_of c) (word_for (state_of c).kind kind a b x) next) where
-  formed_next : (f : Outcome ℤ) → refusal_for (state_of c) call ≡ 0 → f ≡ word_for (state_of c).kind kind a b x
-      → Performs c call (if_formed (state_of c) f next)
-  formed_next f z h = record { nothing = z; is_next = p ∙ ap (λ (r : Outcome ℤ). if_formed (state_of c) r next) (sym h) }
+    (p : performed (state_of c) call ≡ if_formed (state_of c) (word_for (state_of c).kind kind a b x) next)
+    (nothing : refusal_for (state_of c) call ≡ 0) where
+  formed_next : (f : Outcome ℤ) → f ≡ word_for (state_of c).kind kind a b x → Performs c call (if_formed (state_of c) f next)
+  formed_next f h = record { nothing = nothing; is_next = p ∙ ap (λ (r : Outcome ℤ). if_formed (state_of c) r next) (sym h) }
 
-  -- n is the number of the refusal that comes first, or 0
-  pub reading : (n : ℕ) (f : Outcome ℤ) → n ≡ refusal_for (state_of c) call → f ≡ word_unless n (state_of c).kind kind a b x
-      → Reads c call next f
-  unfolding word_unless
-  reading zero (given w) e h = formed_next (given w) (sym e) h
-  reading zero (outcome.refused m) e h = call_performed c g call (formed_next (outcome.refused m) (sym e) h) (unchanged c g m)
-  reading (suc n) (given w) e h = let number : 0 ≡ suc n = ap refusal_of h in absurd (omega arith)
-  reading (suc n) (outcome.refused m) e h =
-      let number : m ≡ suc n = ap refusal_of h in
-      rw number (call_declined c g call (suc n) e (λ z. absurd (omega arith)))
+  -- the reading is refused
+  pub reading_refused : (n : ℕ) → outcome.refused n ≡ word_for (state_of c).kind kind a b x → Gives c call c (refused n)
+  reading_refused n h = call_performed c g call (formed_next (outcome.refused n) h) (unchanged c g n)
+
+  -- the reading has a word
+  pub word_read : (w : ℤ) → given w ≡ word_for (state_of c).kind kind a b x → {d : Chart} → {answer : Answer} → Does (next w) d answer
+      → Gives c call d answer
+  word_read w h = call_performed c g call (formed_next (given w) h)
 
 -- ---- what the calls do
 

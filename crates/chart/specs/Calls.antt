@@ -1,17 +1,13 @@
 -- What a call on a chart gives: the machine's step on the state that the chart stands for. All four calls have the same shape.
-use Rattle.std.specs.Prelude.{◌≡◌, true, false, List, [], ◌∷◌, ℕ, ℤ}
-use Rattle.rules.specs.Outcome.{Outcome, unless_number}
+use Rattle.std.specs.Prelude.{◌≡◌, List, [], ◌∷◌, Result, Ok, Err}
 use Rattle.rules.specs.Choice.{choose}
-use Rattle.rules.specs.Machine.{Call, Answer, Next, judged, reanalysed, corrected, renewed, refused, word_for, step}
+use Rattle.rules.specs.Machine.{Call, Answer, Next, judged, reanalysed, corrected, renewed, refused, step}
+use Rattle.refusals.specs.Refusal.{refusal_number}
+use Rattle.refusals.specs.declared.Refusal.{Refusal}
 use Rattle.chart.specs.declared.Chart.{Chart}
-use Rattle.chart.specs.declared.PostAnswer.{PostAnswer}
-use Rattle.chart.specs.declared.PostAnswer.TheVariants as post
-use Rattle.chart.specs.declared.ReanalysisAnswer.{ReanalysisAnswer}
-use Rattle.chart.specs.declared.ReanalysisAnswer.TheVariants as reanalysis
-use Rattle.chart.specs.declared.CorrectionAnswer.{CorrectionAnswer}
-use Rattle.chart.specs.declared.CorrectionAnswer.TheVariants as correction
-use Rattle.chart.specs.declared.RenewalAnswer.{RenewalAnswer}
-use Rattle.chart.specs.declared.RenewalAnswer.TheVariants as renewal
+use Rattle.chart.specs.declared.Judged.{Judged}
+use Rattle.chart.specs.declared.Retested.{Retested}
+use Rattle.chart.specs.declared.Counts.{Counts}
 use Rattle.chart.specs.Chart.{state_of, chart_of}
 use Rattle.chart.specs.Soundness.{sound_chart}
 
@@ -36,28 +32,23 @@ pub record Does (next : Next) (c : Chart) (answer : Answer) : Type 0 where
   pub chart : c ≡ chart_of next.state
   pub says : answer ≡ next.answer
 
--- a number that is not 0 refuses the call. If it is 0, the call's reading decides
-unfoldable pub word_unless : ℕ → ℕ → ℕ → ℤ → ℤ → ℤ → Outcome ℤ
-word_unless number chart_kind kind a b c = unless_number number (word_for chart_kind kind a b c)
-
 -- ---- what the cases of each call's answer say
 
-unfoldable pub post_says : PostAnswer → Answer
-post_says (post.Judged w v) = judged w v
-post_says (post.Refused n) = refused n
+unfoldable pub post_says : Result Judged Refusal → Answer
+post_says (Ok a) = judged a.word a.verdict
+post_says (Err r) = refused (refusal_number r)
 
-unfoldable pub reanalysis_says : ReanalysisAnswer → Answer
-reanalysis_says (reanalysis.Passed w) = reanalysed w true
-reanalysis_says (reanalysis.Failed w) = reanalysed w false
-reanalysis_says (reanalysis.Refused n) = refused n
+unfoldable pub reanalysis_says : Result Retested Refusal → Answer
+reanalysis_says (Ok a) = reanalysed a.word a.passed
+reanalysis_says (Err r) = refused (refusal_number r)
 
-unfoldable pub correction_says : CorrectionAnswer → Answer
-correction_says correction.Done = corrected
-correction_says (correction.Refused n) = refused n
+unfoldable pub correction_says : Result (Unit {0}) Refusal → Answer
+correction_says (Ok _) = corrected
+correction_says (Err r) = refused (refusal_number r)
 
-unfoldable pub renewal_says : RenewalAnswer → Answer
-renewal_says (renewal.Done rounds removed) = renewed rounds removed
-renewal_says (renewal.Refused n) = refused n
+unfoldable pub renewal_says : Result Counts Refusal → Answer
+renewal_says (Ok a) = renewed a.rounds a.removed
+renewal_says (Err r) = refused (refusal_number r)
 
 -- ---- a list of calls: "The first call takes the chart from building or reading, each later one the chart that the call before it gave
 -- back". By its contract a call gives `next_chart` and `answer_to`. `proofs/Runs` proves that these runs agree with the machine's

@@ -1,6 +1,6 @@
 -- The program's chart and the paper's state: the state that a chart stands for, the chart that stands for a state, and what
 -- building's answer says.
-use Rattle.std.specs.Prelude.{◌≡◌, List, ℕ, length, take, replicate, ℤ, pos}
+use Rattle.std.specs.Prelude.{◌≡◌, List, ℕ, length, take, replicate, ℤ, pos, Result, Ok, Err}
 use Rattle.rules.specs.Outcome.{Outcome, given, refused}
 use Rattle.rules.specs.Sizes.{base_most, series_most}
 use Rattle.rules.specs.State.{State, state, limits_for}
@@ -8,9 +8,10 @@ use Rattle.rules.specs.Building.{BuiltState, building}
 use Rattle.limits.specs.declared.Limits.{Limits}
 use Rattle.limits.specs.Sums.{limits_say, Bounded}
 use Rattle.chart.specs.declared.Chart.{Chart}
-use Rattle.chart.specs.declared.Built.{Built}
-use Rattle.chart.specs.declared.BuildAnswer.{BuildAnswer}
-use Rattle.chart.specs.declared.BuildAnswer.TheVariants.{Done, Refused}
+use Rattle.chart.specs.declared.Called.{Called}
+use Rattle.chart.specs.declared.Counts.{Counts}
+use Rattle.refusals.specs.Refusal.{refusal_number}
+use Rattle.refusals.specs.declared.Refusal.{Refusal}
 use Rattle.chart.specs.Pad.{pad}
 
 -- the state that a chart stands for
@@ -66,14 +67,14 @@ pub record LimitsFor (s : State) (l : Limits) : Type 0 where
   pub same : limits_say l ≡ limits_for s
   pub bounded : Bounded l.sums
 
--- a build that is refused with this number
-abbrev pub not_built : ℕ → Built
-not_built n = record { chart = zero_chart; answer = Refused n }
+-- a build that is refused
+abbrev pub not_built : Refusal → Called Counts
+not_built r = record { chart = zero_chart; answer = Err r }
 
 -- what the cases of building's answer say, for the chart c that comes with the answer
-unfoldable pub build_says : Chart → BuildAnswer → Outcome BuiltState
-build_says c (Done rounds removed) = given (record { state = state_of c; rounds = rounds; removed = removed })
-build_says c (Refused n) = refused n
+unfoldable pub build_says : Chart → Result Counts Refusal → Outcome BuiltState
+build_says c (Ok counts) = given (record { state = state_of c; rounds = counts.rounds; removed = counts.removed })
+build_says c (Err r) = refused (refusal_number r)
 
 -- the chart that goes with building's answer
 unfoldable pub chart_after : Outcome BuiltState → Chart
@@ -81,6 +82,6 @@ chart_after (given b) = chart_of b.state
 chart_after (refused n) = zero_chart
 
 -- the contract of building: its chart and its answer are the paper's
-pub record Builds (kind : ℕ) (words : List ℤ) (r : Built) : Type 0 where
+pub record Builds (kind : ℕ) (words : List ℤ) (r : Called Counts) : Type 0 where
   pub chart : r.chart ≡ chart_after (building kind words)
   pub says : build_says r.chart r.answer ≡ building kind words

@@ -6,59 +6,55 @@ ghost use Rattle.std.specs.Prelude.{◌≡◌, ◌≤◌, length, pos};
 ghost use Rattle.rules.specs.Sizes.{base_most};
 ghost use Rattle.rules.specs.Building.{is_build_count, build_refusal};
 ghost use Rattle.chart.specs.Pad.{pad};
-ghost use Rattle.chart.specs.Chart.{not_built, Builds};
+ghost use Rattle.refusals.specs.Refusal.{answered_number};
+ghost use Rattle.chart.specs.Chart.{zero_chart, Builds};
 
 use crate::rejection::reject;
-use crate::{BuildAnswer, Built, Chart, fresh_chart, zero_chart};
+use crate::{Called, Chart, Counts, fresh_chart, zero_chart};
+use refusals::Refusal;
 
 impl Chart {
-    pub fn build(kind: u16, words: &[i16]) -> Built
+    pub fn build(kind: u16, words: &[i16]) -> Called<Counts>
         ensures { Builds kind words.now result }
     {
-        let number = build_refusal(kind, words);
-        if number != 0 {
-            return not_built(number);
-        }
+        let mut chart = zero_chart();
+        let answer = chart.try_build(kind, words);
+        Called { chart, answer }
+    }
+
+    // Makes the chart of zeros a fresh one of the words that rejection leaves. A refusal leaves it as it was.
+    fn try_build(&mut self, kind: u16, words: &[i16]) -> Result<Counts, Refusal>
+        requires { self.old ≡ zero_chart }
+        ensures { Builds kind words.now (record { chart = self.new; answer = result }) }
+    {
+        may_build(kind, words)?;
         let r = reject(kind, padded(words), words.len());
         let left = r.left;
         if left.n < Chart::BASE_WANTED {
-            return not_built(16);
+            return Err(Refusal::TooFewStand);
         }
-        let base = left.words;
-        Built {
-            chart: fresh_chart(kind, base, left.n),
-            answer: BuildAnswer::Done {
-                rounds: r.rounds,
-                removed: r.removed,
-            },
-        }
+        *self = fresh_chart(kind, left.words, left.n);
+        Ok(Counts {
+            rounds: r.rounds,
+            removed: r.removed,
+        })
     }
 }
 
-// A refused build.
-fn not_built(number: u16) -> Built
-    ensures { result ≡ not_built number }
-{
-    Built {
-        chart: zero_chart(),
-        answer: BuildAnswer::Refused(number),
-    }
-}
-
-// The number of a refusal that kind and words decide before rejection, or 0 if none applies.
-fn build_refusal(kind: u16, words: &[i16]) -> u16
-    ensures { result ≡ build_refusal kind words.now }
+// The refusals that kind and words decide before rejection.
+fn may_build(kind: u16, words: &[i16]) -> Result<(), Refusal>
+    ensures { answered_number result ≡ build_refusal kind words.now }
 {
     if !words::is_kind(kind) {
-        return 1;
+        return Err(Refusal::NoKind);
     }
     if !is_build_count(words) {
-        return 2;
+        return Err(Refusal::WordCount);
     }
     if !words::all_in_range(kind, words) {
-        return 3;
+        return Err(Refusal::BaseWord);
     }
-    0
+    Ok(())
 }
 
 fn is_build_count(words: &[i16]) -> bool

@@ -11,24 +11,25 @@ pub mod soundness;
 mod tail;
 
 ghost use Rattle.std.specs.Prelude.{◌≡◌, true, ◌++◌};
-ghost use Rattle.rules.specs.Choice.{require};
 ghost use Rattle.rules.specs.State.{limits_for, add_word, replace_last};
 ghost use Rattle.rules.specs.Verdict as verdicts;
 ghost use Rattle.rules.specs.Reanalysis as reanalyses;
 ghost use Rattle.rules.specs.Machine as machine;
-ghost use Rattle.words.specs.Formed.{formed_says};
+ghost use Rattle.rules.specs.Machine.{judged, reanalysed};
+ghost use Rattle.refusals.specs.Refusal.{answered_number};
 ghost use Rattle.chart.specs.Chart.{state_of, chart_of, with_status, zero_chart, fresh_chart, LimitsFor};
 ghost use Rattle.chart.specs.Rejection.{IsRejection};
 ghost use Rattle.chart.specs.Tail.{tail_rejection};
 ghost use Rattle.chart.specs.Soundness.{sound_chart, HasRoom, HasLast};
-ghost use Rattle.chart.specs.Calls.{Gives, Does, post_says, reanalysis_says, correction_says, renewal_says, word_unless};
+ghost use Rattle.chart.specs.Calls.{Gives, Does, post_says, reanalysis_says, correction_says, renewal_says};
 
 use judging::reanalysis::passes;
 use judging::verdict::{status_for, verdict};
 use limits::{Limits, limits_of};
+use refusals::Refusal;
 use rejection::RejectionAnswer;
 use tail::reject_tail;
-use words::{Formed, word_for};
+use words::word_for;
 
 #[derive(Clone, Copy)]
 pub struct Chart {
@@ -41,68 +42,32 @@ pub struct Chart {
     pub open_verdict: u16,
 }
 
+// What a call gives: the chart after it, and its answer or its refusal. A refused call gives back the chart that it got.
 #[derive(Clone, Copy)]
-pub enum BuildAnswer {
-    // Rounds of rejection, and the number of words that they removed.
-    Done { rounds: usize, removed: usize },
-    Refused(u16),
-}
-
-#[derive(Clone, Copy)]
-pub struct Built {
+pub struct Called<A> {
     pub chart: Chart,
-    pub answer: BuildAnswer,
+    pub answer: Result<A, Refusal>,
 }
 
+// Rounds of rejection, and the number of words that they removed: the answer of building and of renewal.
 #[derive(Clone, Copy)]
-pub enum PostAnswer {
-    Judged { word: i16, verdict: u16 },
-    Refused(u16),
+pub struct Counts {
+    pub rounds: usize,
+    pub removed: usize,
 }
 
+// The answer of a post.
 #[derive(Clone, Copy)]
-pub struct Posted {
-    pub chart: Chart,
-    pub answer: PostAnswer,
+pub struct Judged {
+    pub word: i16,
+    pub verdict: u16,
 }
 
-// A reanalysis answers its word and whether it passed.
+// The answer of a reanalysis: its word, and whether it passed.
 #[derive(Clone, Copy)]
-pub enum ReanalysisAnswer {
-    Passed(i16),
-    Failed(i16),
-    Refused(u16),
-}
-
-#[derive(Clone, Copy)]
-pub struct Reanalysed {
-    pub chart: Chart,
-    pub answer: ReanalysisAnswer,
-}
-
-#[derive(Clone, Copy)]
-pub enum CorrectionAnswer {
-    Done,
-    Refused(u16),
-}
-
-#[derive(Clone, Copy)]
-pub struct Corrected {
-    pub chart: Chart,
-    pub answer: CorrectionAnswer,
-}
-
-#[derive(Clone, Copy)]
-pub enum RenewalAnswer {
-    // Rounds of rejection, and the number of words that they removed.
-    Done { rounds: usize, removed: usize },
-    Refused(u16),
-}
-
-#[derive(Clone, Copy)]
-pub struct Renewed {
-    pub chart: Chart,
-    pub answer: RenewalAnswer,
+pub struct Retested {
+    pub word: i16,
+    pub passed: bool,
 }
 
 impl Chart {
@@ -120,49 +85,49 @@ impl Chart {
     // Lines are whole numbers of 256ths.
     pub const LINE_PARTS: usize = limits::LINE_PARTS;
 
-    pub fn post(mut self, kind: u16, a: i64, b: i64, c: i64) -> Posted
+    pub fn post(mut self, kind: u16, a: i64, b: i64, c: i64) -> Called<Judged>
         ensures { Gives self (machine.post kind a b c) result.chart (post_says result.answer) }
     {
         if !self.sound() {
-            return Posted {
+            return Called {
                 chart: self,
-                answer: PostAnswer::Refused(14),
+                answer: Err(Refusal::NotSound),
             };
         }
         self.post_sound(kind, a, b, c)
     }
 
-    pub fn reanalyse(mut self, kind: u16, a: i64, b: i64, c: i64) -> Reanalysed
+    pub fn reanalyse(mut self, kind: u16, a: i64, b: i64, c: i64) -> Called<Retested>
         ensures { Gives self (machine.reanalysis kind a b c) result.chart (reanalysis_says result.answer) }
     {
         if !self.sound() {
-            return Reanalysed {
+            return Called {
                 chart: self,
-                answer: ReanalysisAnswer::Refused(14),
+                answer: Err(Refusal::NotSound),
             };
         }
         self.reanalyse_sound(kind, a, b, c)
     }
 
-    pub fn correct(mut self) -> Corrected
+    pub fn correct(mut self) -> Called<()>
         ensures { Gives self machine.correction result.chart (correction_says result.answer) }
     {
         if !self.sound() {
-            return Corrected {
+            return Called {
                 chart: self,
-                answer: CorrectionAnswer::Refused(14),
+                answer: Err(Refusal::NotSound),
             };
         }
         self.correct_sound()
     }
 
-    pub fn renew(mut self) -> Renewed
+    pub fn renew(mut self) -> Called<Counts>
         ensures { Gives self machine.renewal result.chart (renewal_says result.answer) }
     {
         if !self.sound() {
-            return Renewed {
+            return Called {
                 chart: self,
-                answer: RenewalAnswer::Refused(14),
+                answer: Err(Refusal::NotSound),
             };
         }
         self.renew_sound()
@@ -170,149 +135,181 @@ impl Chart {
 
     // ---- the calls on a chart that is known to be sound, for example one just read
 
-    pub fn post_sound(mut self, kind: u16, a: i64, b: i64, c: i64) -> Posted
+    pub fn post_sound(mut self, kind: u16, a: i64, b: i64, c: i64) -> Called<Judged>
         requires { sound_chart self ≡ true }
         ensures { Gives self (machine.post kind a b c) result.chart (post_says result.answer) }
     {
-        let formed = word_unless(self.post_refusal(), self.kind, kind, a, b, c);
-        match formed {
-            Formed::Word(w) => self.post_word(w),
-            Formed::Refused(n) => Posted {
-                chart: self,
-                answer: PostAnswer::Refused(n),
-            },
+        let answer = self.try_post(kind, a, b, c);
+        Called {
+            chart: self,
+            answer,
         }
     }
 
-    pub fn reanalyse_sound(mut self, kind: u16, a: i64, b: i64, c: i64) -> Reanalysed
+    pub fn reanalyse_sound(mut self, kind: u16, a: i64, b: i64, c: i64) -> Called<Retested>
         requires { sound_chart self ≡ true }
         ensures { Gives self (machine.reanalysis kind a b c) result.chart (reanalysis_says result.answer) }
     {
-        let number = refuse_unless(self.status == 1, 10, 0);
-        let formed = word_unless(number, self.kind, kind, a, b, c);
-        match formed {
-            Formed::Word(w) => self.reanalyse_word(w),
-            Formed::Refused(n) => Reanalysed {
-                chart: self,
-                answer: ReanalysisAnswer::Refused(n),
-            },
+        let answer = self.try_reanalyse(kind, a, b, c);
+        Called {
+            chart: self,
+            answer,
         }
     }
 
-    // After a correction a reanalysis is due again.
-    pub fn correct_sound(mut self) -> Corrected
+    pub fn correct_sound(mut self) -> Called<()>
         requires { sound_chart self ≡ true }
         ensures { Gives self machine.correction result.chart (correction_says result.answer) }
     {
-        let number = refuse_unless(self.status == 2, 11, 0);
-        if number != 0 {
-            return Corrected {
-                chart: self,
-                answer: CorrectionAnswer::Refused(number),
-            };
-        }
-        self = self.set_status(1, self.open_verdict);
-        Corrected {
+        let answer = self.try_correct();
+        Called {
             chart: self,
-            answer: CorrectionAnswer::Done,
+            answer,
         }
     }
 
-    // Rejection from the shortest tail of base and series that will do gives the new base.
-    pub fn renew_sound(mut self) -> Renewed
+    pub fn renew_sound(mut self) -> Called<Counts>
         requires { sound_chart self ≡ true }
         ensures { Gives self machine.renewal result.chart (renewal_says result.answer) }
     {
-        let number = self.renewal_refusal();
-        if number != 0 {
-            return Renewed {
-                chart: self,
-                answer: RenewalAnswer::Refused(number),
-            };
+        let answer = self.try_renew();
+        Called {
+            chart: self,
+            answer,
         }
+    }
+
+    // ---- the same in place. A refusal leaves the chart as it was
+
+    fn try_post(&mut self, kind: u16, a: i64, b: i64, c: i64) -> Result<Judged, Refusal>
+        requires { sound_chart self.old ≡ true }
+        ensures { Gives self.old (machine.post kind a b c) self.new (post_says result) }
+    {
+        self.may_post()?;
+        let w = word_for(self.kind, kind, a, b, c)?;
+        Ok(self.post_word(w))
+    }
+
+    fn try_reanalyse(&mut self, kind: u16, a: i64, b: i64, c: i64) -> Result<Retested, Refusal>
+        requires { sound_chart self.old ≡ true }
+        ensures { Gives self.old (machine.reanalysis kind a b c) self.new (reanalysis_says result) }
+    {
+        self.may_reanalyse()?;
+        let w = word_for(self.kind, kind, a, b, c)?;
+        Ok(self.reanalyse_word(w))
+    }
+
+    // After a correction a reanalysis is due again.
+    fn try_correct(&mut self) -> Result<(), Refusal>
+        requires { sound_chart self.old ≡ true }
+        ensures { Gives self.old machine.correction self.new (correction_says result) }
+    {
+        if self.status != 2 {
+            return Err(Refusal::NoCorrectionDue);
+        }
+        self.set_status(1, self.open_verdict);
+        Ok(())
+    }
+
+    // Rejection from the shortest tail of base and series that will do gives the new base.
+    fn try_renew(&mut self) -> Result<Counts, Refusal>
+        requires { sound_chart self.old ≡ true }
+        ensures { Gives self.old machine.renewal self.new (renewal_says result) }
+    {
+        self.may_renew()?;
         let r = self.renewal_rejection();
         let left = r.left;
         if left.n < Chart::BASE_WANTED {
-            return Renewed {
-                chart: self,
-                answer: RenewalAnswer::Refused(16),
-            };
+            return Err(Refusal::TooFewStand);
         }
-        let base = left.words;
-        self = fresh_chart(self.kind, base, left.n);
-        Renewed {
-            chart: self,
-            answer: RenewalAnswer::Done {
-                rounds: r.rounds,
-                removed: r.removed,
-            },
-        }
+        *self = fresh_chart(self.kind, left.words, left.n);
+        Ok(Counts {
+            rounds: r.rounds,
+            removed: r.removed,
+        })
     }
 
-    // ---- refusals of a sound chart that come first, before the call's reading and before rejection: the number, or 0 if none applies
+    // ---- refusals of a sound chart that come first, before the call's reading and before rejection
 
-    fn post_refusal(self) -> u16
-        requires { sound_chart self ≡ true }
-        ensures { result ≡ machine.post_refusal (state_of self) }
+    fn may_post(&self) -> Result<(), Refusal>
+        requires { sound_chart self.now ≡ true }
+        ensures { answered_number result ≡ machine.post_refusal (state_of self.now) }
     {
+        if self.status != 0 {
+            return Err(Refusal::NotFree);
+        }
         let room = self.series_len < Chart::SERIES_MOST;
-        refuse_unless(self.status == 0, 8, refuse_unless(room, 9, 0))
+        if !room {
+            return Err(Refusal::SeriesFull);
+        }
+        Ok(())
     }
 
-    fn renewal_refusal(self) -> u16
-        requires { sound_chart self ≡ true }
-        ensures { result ≡ machine.renewal_refusal (state_of self) }
+    fn may_reanalyse(&self) -> Result<(), Refusal>
+        requires { sound_chart self.now ≡ true }
+        ensures { answered_number result ≡ machine.reanalysis_refusal (state_of self.now) }
     {
+        if self.status != 1 {
+            return Err(Refusal::NoReanalysisDue);
+        }
+        Ok(())
+    }
+
+    fn may_renew(&self) -> Result<(), Refusal>
+        requires { sound_chart self.now ≡ true }
+        ensures { answered_number result ≡ machine.renewal_refusal (state_of self.now) }
+    {
+        if self.status != 0 {
+            return Err(Refusal::NotFree);
+        }
         let enough = Chart::BASE_WANTED <= self.base_len + self.series_len;
-        refuse_unless(self.status == 0, 8, refuse_unless(enough, 12, 0))
+        if !enough {
+            return Err(Refusal::TooFewWords);
+        }
+        Ok(())
     }
 
     // ---- what a post and a reanalysis do with the word of their reading
 
     // Judges the word, adds it to the series, and answers word and verdict.
-    fn post_word(mut self, w: i16) -> Posted
-        requires { HasRoom self }
-        ensures { Does (machine.posting (state_of self) w) result.chart (post_says result.answer) }
+    fn post_word(&mut self, w: i16) -> Judged
+        requires { HasRoom self.old }
+        ensures { Does (machine.posting (state_of self.old) w) self.new (judged result.word result.verdict) }
     {
-        let v = self.verdict_on(w);
-        self = self.add_word(w);
-        self = self.set_status(status_for(v), v);
-        Posted {
-            chart: self,
-            answer: PostAnswer::Judged {
-                word: w,
-                verdict: v,
-            },
+        let verdict = self.verdict_on(w);
+        self.add_word(w);
+        self.set_status(status_for(verdict), verdict);
+        Judged {
+            word: w,
+            verdict,
         }
     }
 
     // A word that passes replaces the last of the series, and the chart is free again. If the word fails, the series does not change, and a
     // correction is due.
-    fn reanalyse_word(mut self, w: i16) -> Reanalysed
-        requires { HasLast self }
-        ensures { Does (machine.reanalysing (state_of self) w) result.chart (reanalysis_says result.answer) }
+    fn reanalyse_word(&mut self, w: i16) -> Retested
+        requires { HasLast self.old }
+        ensures { Does (machine.reanalysing (state_of self.old) w) self.new (reanalysed result.word result.passed) }
     {
-        if self.passes_for_last(w) {
-            self = self.replace_last(w);
-            self = self.set_status(0, 0);
-            return Reanalysed {
-                chart: self,
-                answer: ReanalysisAnswer::Passed(w),
-            };
+        let passed = self.passes_for_last(w);
+        if passed {
+            self.replace_last(w);
+            self.set_status(0, 0);
+        } else {
+            self.set_status(2, self.open_verdict);
         }
-        self = self.set_status(2, self.open_verdict);
-        Reanalysed {
-            chart: self,
-            answer: ReanalysisAnswer::Failed(w),
+        Retested {
+            word: w,
+            passed,
         }
     }
 
     // ---- judging on a sound chart
 
     // The verdict that posting w would give.
-    fn verdict_on(self, w: i16) -> u16
-        requires { HasRoom self }
-        ensures { result ≡ verdicts.verdict (limits_for (state_of self)) (add_word (state_of self) w).series }
+    fn verdict_on(&self, w: i16) -> u16
+        requires { HasRoom self.now }
+        ensures { result ≡ verdicts.verdict (limits_for (state_of self.now)) (add_word (state_of self.now) w).series }
     {
         let l = self.limits();
         let mut series = self.series;
@@ -323,9 +320,9 @@ impl Chart {
     }
 
     // Whether w passes in place of the last word of the series.
-    fn passes_for_last(self, w: i16) -> bool
-        requires { sound_chart self ≡ true }
-        ensures { result ≡ reanalyses.passes (limits_for (state_of self)) self.open_verdict (state_of self).series w }
+    fn passes_for_last(&self, w: i16) -> bool
+        requires { sound_chart self.now ≡ true }
+        ensures { result ≡ reanalyses.passes (limits_for (state_of self.now)) self.now.open_verdict (state_of self.now).series w }
     {
         let l = self.limits();
         let series = self.series;
@@ -333,9 +330,9 @@ impl Chart {
         passes(l, self.open_verdict, &series[..m], w)
     }
 
-    fn limits(self) -> Limits
-        requires { sound_chart self ≡ true }
-        ensures { LimitsFor (state_of self) result }
+    fn limits(&self) -> Limits
+        requires { sound_chart self.now ≡ true }
+        ensures { LimitsFor (state_of self.now) result }
     {
         let base = self.base;
         let n = self.base_len;
@@ -344,37 +341,34 @@ impl Chart {
 
     // ---- what a call changes
 
-    fn add_word(mut self, w: i16) -> Chart
-        requires { HasRoom self }
-        ensures { result ≡ chart_of (add_word (state_of self) w) }
+    fn add_word(&mut self, w: i16)
+        requires { HasRoom self.old }
+        ensures { self.new ≡ chart_of (add_word (state_of self.old) w) }
     {
         let m = self.series_len;
         self.series[m] = w;
         self.series_len = m + 1;
-        self
     }
 
-    fn replace_last(mut self, w: i16) -> Chart
-        requires { HasLast self }
-        ensures { result ≡ chart_of (replace_last (state_of self) w) }
+    fn replace_last(&mut self, w: i16)
+        requires { HasLast self.old }
+        ensures { self.new ≡ chart_of (replace_last (state_of self.old) w) }
     {
         let last = self.series_len - 1;
         self.series[last] = w;
-        self
     }
 
-    fn set_status(mut self, status: u16, open_verdict: u16) -> Chart
-        ensures { result ≡ with_status self status open_verdict }
+    fn set_status(&mut self, status: u16, open_verdict: u16)
+        ensures { self.new ≡ with_status self.old status open_verdict }
     {
         self.status = status;
         self.open_verdict = open_verdict;
-        self
     }
 
     // What rejection leaves of the shortest tail of base and series that will do.
-    fn renewal_rejection(self) -> RejectionAnswer
-        requires { sound_chart self ≡ true }
-        ensures { IsRejection (tail_rejection self.kind ((state_of self).base ++ (state_of self).series)) result }
+    fn renewal_rejection(&self) -> RejectionAnswer
+        requires { sound_chart self.now ≡ true }
+        ensures { IsRejection (tail_rejection self.now.kind ((state_of self.now).base ++ (state_of self.now).series)) result }
     {
         let base = self.base;
         let n = self.base_len;
@@ -382,26 +376,6 @@ impl Chart {
         let m = self.series_len;
         reject_tail(self.kind, &base[..n], &series[..m])
     }
-}
-
-// The number, if the condition does not hold. If it holds, the rest decides.
-fn refuse_unless(holds: bool, number: u16, rest: u16) -> u16
-    ensures { result ≡ require holds number rest }
-{
-    if holds {
-        return rest;
-    }
-    number
-}
-
-// The word of a reading for a chart, or a refusal. A number that is not 0 is the refusal. If it is 0, the reading decides: 4, 5, 6, 7.
-fn word_unless(number: u16, chart_kind: u16, kind: u16, a: i64, b: i64, c: i64) -> Formed
-    ensures { formed_says result ≡ word_unless number chart_kind kind a b c }
-{
-    if number != 0 {
-        return Formed::Refused(number);
-    }
-    word_for(chart_kind, kind, a, b, c)
 }
 
 // A chart with an empty series and status 0.

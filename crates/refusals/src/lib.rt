@@ -3,7 +3,7 @@
 #![tactic(auto)]
 
 ghost use Rattle.std.specs.Prelude.{◌≡◌};
-ghost use Rattle.refusals.specs.Refusal.{number_of};
+ghost use Rattle.refusals.specs.Refusal.{refusal_number};
 
 // The table's rows, in its order.
 #[derive(Clone, Copy, Debug, PartialEq, Eq)]
@@ -43,9 +43,9 @@ pub enum Refusal {
 }
 
 impl Refusal {
-    #[tactic(auto, unfolding(crate::specs::Refusal::number_of))]
+    #[tactic(auto, unfolding(crate::specs::Refusal::refusal_number))]
     pub fn number(self) -> u16
-        ensures { result ≡ number_of self }
+        ensures { result ≡ refusal_number self }
     {
         self as u16
     }

@@ -13,7 +13,7 @@ ghost use Rattle.rules.specs.Building.{all_in_range};
 ghost use Rattle.rules.specs.Machine.{word_for};
 ghost use Rattle.rules.specs.Word.{is_reading, are_readings, nearest_natural, from_reading, word_alone};
 ghost use Rattle.rules.specs.Word as rules;
-ghost use Rattle.refusals.specs.Refusal.{outcome_of};
+ghost use Rattle.refusals.specs.Refusal.{result_says};
 ghost use Rattle.words.specs.Formed.{signed, ReadingIs, IsQuotient};
 
 use extremes::extremes_of;
@@ -35,7 +35,7 @@ struct Quotient {
 }
 
 pub fn word(kind: u16, a: i64, b: i64, c: i64) -> Result<i16, Refusal>
-    ensures { outcome_of result ≡ word_alone kind a b c }
+    ensures { result_says result ≡ word_alone kind a b c }
 {
     if !is_kind(kind) {
         return Err(Refusal::NoKind);
@@ -52,7 +52,7 @@ pub fn is_kind(kind: u16) -> bool
 
 // The word of a reading for a chart. A reading of another kind than the chart is refused with 4. Then 5, 6 and 7 apply.
 pub fn word_for(chart_kind: u16, kind: u16, a: i64, b: i64, c: i64) -> Result<i16, Refusal>
-    ensures { outcome_of result ≡ word_for chart_kind kind a b c }
+    ensures { result_says result ≡ word_for chart_kind kind a b c }
 {
     if kind != chart_kind {
         return Err(Refusal::AnotherKind);
@@ -62,7 +62,7 @@ pub fn word_for(chart_kind: u16, kind: u16, a: i64, b: i64, c: i64) -> Result<i1
 
 // The paper's kinds are 1..3. Any other kind is treated as kind 3.
 pub fn from_reading(kind: u16, a: i64, b: i64, c: i64) -> Result<i16, Refusal>
-    ensures { outcome_of result ≡ from_reading kind a b c }
+    ensures { result_says result ≡ from_reading kind a b c }
 {
     if !are_readings(kind, a, b, c) {
         return Err(Refusal::NoReading);

@@ -10,14 +10,14 @@ use Rattle.rules.specs.Choice.{require}
 use Rattle.rules.specs.Kind.{in_range}
 use Rattle.rules.specs.Word.{are_readings, rounded_quotient, from_reading}
 use Rattle.words.specs.Formed.{IsQuotient}
-use Rattle.refusals.specs.Refusal.{outcome_of, number_of}
+use Rattle.refusals.specs.Refusal.{result_says, refusal_number}
 use Rattle.rules.proofs.Booleans.{answered_no, answered_yes}
 use Rattle.rules.proofs.Kind.{in_range_fits}
 use Rattle.words.proofs.Readings.{numerator_is}
 use Rattle.words.proofs.from_reading.Goals as goal
 
 pub returns-then-not-are_readings : goal.returns-then-not-are_readings
-unfolding outcome_of number_of from_reading
+unfolding result_says refusal_number from_reading
 returns-then-not-are_readings c =
     let readings_tested : c.are_readings.result ≡ are_readings c.args.kind c.args.a c.args.b c.args.c =
     let fits = c.ranges in rw (to_z-of_z fits.a, to_z-of_z fits.b, to_z-of_z fits.c) at c.are_readings.ensures in
@@ -28,7 +28,7 @@ quotient_of-q-requires c =
     answered_yes c.are_readings.ensures c.if-not-are_readings.false
 
 pub returns-then-q-eq0 : goal.returns-then-q-eq0
-unfolding outcome_of number_of from_reading
+unfolding result_says refusal_number from_reading
 returns-then-q-eq0 c =
     let readings_tested : c.are_readings.result ≡ are_readings c.args.kind c.args.a c.args.b c.args.c =
     let fits = c.ranges in rw (to_z-of_z fits.a, to_z-of_z fits.b, to_z-of_z fits.c) at c.are_readings.ensures in
@@ -39,7 +39,7 @@ returns-then-q-eq0 c =
     rw (readings_hold, ← is_quotient.is_divisor, eq-eqb c.quotient_of-q.result.divisor 0 c.if-q-eq0.true)
 
 pub returns-then-not-in_range : goal.returns-then-not-in_range
-unfolding outcome_of number_of from_reading rounded_quotient
+unfolding result_says refusal_number from_reading rounded_quotient
 returns-then-not-in_range c =
     let readings_tested : c.are_readings.result ≡ are_readings c.args.kind c.args.a c.args.b c.args.c =
     let fits = c.ranges in rw (to_z-of_z fits.a, to_z-of_z fits.b, to_z-of_z fits.c) at c.are_readings.ensures in
@@ -70,7 +70,7 @@ overflow_cast-result c =
     rw (to_z-of_z word_fits) kept_word
 
 pub returns : goal.returns
-unfolding outcome_of number_of from_reading rounded_quotient
+unfolding result_says refusal_number from_reading rounded_quotient
 returns c =
     let readings_tested : c.are_readings.result ≡ are_readings c.args.kind c.args.a c.args.b c.args.c =
     let fits = c.ranges in rw (to_z-of_z fits.a, to_z-of_z fits.b, to_z-of_z fits.c) at c.are_readings.ensures in

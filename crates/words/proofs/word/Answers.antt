@@ -2,11 +2,11 @@
 use Rattle.rules.proofs.Booleans.{answered_no, answered_yes}
 use mir.Facts.{to_z-of_z}
 use Rattle.rules.specs.Word.{word_alone}
-use Rattle.refusals.specs.Refusal.{outcome_of, number_of}
+use Rattle.refusals.specs.Refusal.{result_says, refusal_number}
 use Rattle.words.proofs.word.Goals as goal
 
 pub returns-then-not-is_kind : goal.returns-then-not-is_kind
-unfolding outcome_of number_of word_alone
+unfolding result_says refusal_number word_alone
 returns-then-not-is_kind c = rw (answered_no c.is_kind.ensures c.if-not-is_kind.true)
 
 pub returns : goal.returns

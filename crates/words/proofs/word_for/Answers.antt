@@ -2,11 +2,11 @@
 use borrow.Author.Tests.{eq-eqb, ne_eqb}
 use mir.Facts.{to_z-of_z}
 use Rattle.rules.specs.Machine.{word_for}
-use Rattle.refusals.specs.Refusal.{outcome_of, number_of}
+use Rattle.refusals.specs.Refusal.{result_says, refusal_number}
 use Rattle.words.proofs.word_for.Goals as goal
 
 pub returns-then-kind-chart_kind : goal.returns-then-kind-chart_kind
-unfolding word_for outcome_of number_of
+unfolding word_for result_says refusal_number
 returns-then-kind-chart_kind c = rw (ne_eqb c.args.kind c.args.chart_kind c.if-kind-chart_kind.true)
 
 pub returns : goal.returns

@@ -6,5 +6,5 @@ use Rattle.chart.proofs.Chart.add_word.Goals as goal
 
 pub returns : goal.returns
 returns c =
-    let sound_self : Given c.args.self = given c.args.self (search rules) (search rules) c.requires.sound in
-    rw (to_z-of_z c.ranges.w) (word_added c.args.self sound_self c.args.w c.requires.room)
+    let sound_self : Given c.args.self.now = given c.args.self.now (search rules) (search rules) c.requires.sound in
+    rw (to_z-of_z c.ranges.w) (word_added c.args.self.now sound_self c.args.w c.requires.room)

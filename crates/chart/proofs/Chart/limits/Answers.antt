@@ -9,19 +9,19 @@ use Rattle.chart.proofs.Chart.limits.Goals as goal
 
 pub slice_bounds-base-end : goal.slice_bounds-base-end
 slice_bounds-base-end c =
-    let sound_self : Given c.args.self = given c.args.self (search rules) (search rules) c.requires in
-    base_fits c.args.self sound_self.within
+    let sound_self : Given c.args.self.now = given c.args.self.now (search rules) (search rules) c.requires in
+    base_fits c.args.self.now sound_self.within
 
 pub slice_bounds-limits_of-end : goal.slice_bounds-limits_of-end
 slice_bounds-limits_of-end c =
-    let sound_self : Given c.args.self = given c.args.self (search rules) (search rules) c.requires in
-    sym (base_count_lem c.args.self sound_self.within)
+    let sound_self : Given c.args.self.now = given c.args.self.now (search rules) (search rules) c.requires in
+    sym (base_count_lem c.args.self.now sound_self.within)
 
 pub limits_of-requires : goal.limits_of-requires
 limits_of-requires c =
-    let sound_self : Given c.args.self = given c.args.self (search rules) (search rules) c.requires in
+    let sound_self : Given c.args.self.now = given c.args.self.now (search rules) (search rules) c.requires in
     let within = sound_self.within in
-    omega (arith, within.base_few, base_count_lem c.args.self within)
+    omega (arith, within.base_few, base_count_lem c.args.self.now within)
 
 pub returns : goal.returns
 unfolding limits_for state_of

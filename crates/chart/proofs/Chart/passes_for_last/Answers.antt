@@ -8,13 +8,13 @@ use Rattle.chart.proofs.Chart.passes_for_last.Goals as goal
 
 pub slice_bounds-series-end : goal.slice_bounds-series-end
 slice_bounds-series-end c =
-    let sound_self : Given c.args.self = given c.args.self (search rules) (search rules) c.requires in
-    series_fits c.args.self sound_self.within
+    let sound_self : Given c.args.self.now = given c.args.self.now (search rules) (search rules) c.requires in
+    series_fits c.args.self.now sound_self.within
 
 pub slice_bounds-passes-end : goal.slice_bounds-passes-end
 slice_bounds-passes-end c =
-    let sound_self : Given c.args.self = given c.args.self (search rules) (search rules) c.requires in
-    sym (series_count_lem c.args.self sound_self.within)
+    let sound_self : Given c.args.self.now = given c.args.self.now (search rules) (search rules) c.requires in
+    sym (series_count_lem c.args.self.now sound_self.within)
 
 pub passes-requires : goal.passes-requires
 passes-requires c = c.limits-l.ensures.bounded

@@ -1,12 +1,13 @@
 -- `chart::Chart::post` meets its contract: 14 first, and then the call on a sound chart.
 use mir.Facts.{to_z-of_z}
 use Rattle.rules.proofs.Booleans.{answered_no, answered_yes}
+use Rattle.refusals.specs.Refusal.{refusal_number}
 use Rattle.chart.specs.Calls.{post_says}
 use Rattle.chart.proofs.Calls.{not_sound}
 use Rattle.chart.proofs.Chart.post.Goals as goal
 
 pub returns-then-not-sound : goal.returns-then-not-sound
-unfolding post_says
+unfolding post_says refusal_number
 returns-then-not-sound c = not_sound (answered_no c.sound.ensures c.if-not-sound.true)
 
 pub post_sound-requires : goal.post_sound-requires

@@ -5,17 +5,15 @@ use mir.Facts.{to_z-of_z}
 use Rattle.rules.specs.State.{limits_for, add_word}
 use Rattle.rules.specs.Verdict.{verdict}
 use Rattle.chart.specs.Chart.{state_of, chart_of}
-use Rattle.chart.specs.Calls.{post_says}
 use Rattle.chart.proofs.Calls.{posted}
 use Rattle.chart.proofs.Chart.post_word.Goals as goal
 
 pub returns : goal.returns
-unfolding post_says
 returns c =
-    let s = state_of c.args.self in
+    let s = state_of c.args.self.now in
     let word = to_z-of_z c.ranges.w in
-    let v = c.verdict_on-v.ensures ∙ ap (λ (x : ℤ). verdict (limits_for s) (add_word s x).series) word in
-    let chart = c.add_word-self.ensures ∙ ap (λ (x : ℤ). chart_of (add_word s x)) word in
+    let v = c.verdict_on-verdict.ensures ∙ ap (λ (x : ℤ). verdict (limits_for s) (add_word s x).series) word in
+    let chart = c.add_word.ensures ∙ ap (λ (x : ℤ). chart_of (add_word s x)) word in
     rw word
-    (posted s c.args.w c.verdict_on-v.result c.status_for.result c.add_word-self.result
-    c.set_status-self.result v chart c.status_for.ensures c.set_status-self.ensures)
+    (posted s c.args.w c.verdict_on-verdict.result c.status_for.result c.add_word.new.self
+    c.set_status.new.self v chart c.status_for.ensures c.set_status.ensures)

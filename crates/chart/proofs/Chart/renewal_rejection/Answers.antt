@@ -7,23 +7,23 @@ use Rattle.chart.proofs.Chart.renewal_rejection.Goals as goal
 
 pub slice_bounds-base-end : goal.slice_bounds-base-end
 slice_bounds-base-end c =
-    let sound_self : Given c.args.self = given c.args.self (search rules) (search rules) c.requires in
-    base_fits c.args.self sound_self.within
+    let sound_self : Given c.args.self.now = given c.args.self.now (search rules) (search rules) c.requires in
+    base_fits c.args.self.now sound_self.within
 
 pub slice_bounds-reject_tail-end : goal.slice_bounds-reject_tail-end
 slice_bounds-reject_tail-end c =
-    let sound_self : Given c.args.self = given c.args.self (search rules) (search rules) c.requires in
-    sym (base_count_lem c.args.self sound_self.within)
+    let sound_self : Given c.args.self.now = given c.args.self.now (search rules) (search rules) c.requires in
+    sym (base_count_lem c.args.self.now sound_self.within)
 
 pub slice_bounds-series-end : goal.slice_bounds-series-end
 slice_bounds-series-end c =
-    let sound_self : Given c.args.self = given c.args.self (search rules) (search rules) c.requires in
-    series_fits c.args.self sound_self.within
+    let sound_self : Given c.args.self.now = given c.args.self.now (search rules) (search rules) c.requires in
+    series_fits c.args.self.now sound_self.within
 
 pub slice_bounds-reject_tail-end-2 : goal.slice_bounds-reject_tail-end-2
 slice_bounds-reject_tail-end-2 c =
-    let sound_self : Given c.args.self = given c.args.self (search rules) (search rules) c.requires in
-    sym (series_count_lem c.args.self sound_self.within)
+    let sound_self : Given c.args.self.now = given c.args.self.now (search rules) (search rules) c.requires in
+    sym (series_count_lem c.args.self.now sound_self.within)
 
 pub returns : goal.returns
 unfolding state_of

@@ -19,19 +19,19 @@ use Rattle.chart.proofs.Chart.verdict_on.Goals as goal
 
 pub slice_bounds-series-end : goal.slice_bounds-series-end
 slice_bounds-series-end c =
-    let sound_self : Given c.args.self = given c.args.self (search rules) (search rules) c.requires.sound in
-    let places : List ℤ = let self = c.args.self in set self.series self.series_len (to_z w16 (of_z w16 c.args.w)) in
-    let room : c.args.self.series_len + 1 ≤ length places =
-    let self = c.args.self in let same = length-set self.series self.series_len (to_z w16 (of_z w16 c.args.w)) in omega
+    let sound_self : Given c.args.self.now = given c.args.self.now (search rules) (search rules) c.requires.sound in
+    let places : List ℤ = let self = c.args.self.now in set self.series self.series_len (to_z w16 (of_z w16 c.args.w)) in
+    let room : c.args.self.now.series_len + 1 ≤ length places =
+    let self = c.args.self.now in let same = length-set self.series self.series_len (to_z w16 (of_z w16 c.args.w)) in omega
     (arith, same, sound_self.within.series_places, c.requires.room) in
     omega (arith, room)
 
 pub slice_bounds-verdict-end : goal.slice_bounds-verdict-end
 slice_bounds-verdict-end c =
-    let sound_self : Given c.args.self = given c.args.self (search rules) (search rules) c.requires.sound in
-    let places : List ℤ = let self = c.args.self in set self.series self.series_len (to_z w16 (of_z w16 c.args.w)) in
-    let room : c.args.self.series_len + 1 ≤ length places =
-    let self = c.args.self in let same = length-set self.series self.series_len (to_z w16 (of_z w16 c.args.w)) in omega
+    let sound_self : Given c.args.self.now = given c.args.self.now (search rules) (search rules) c.requires.sound in
+    let places : List ℤ = let self = c.args.self.now in set self.series self.series_len (to_z w16 (of_z w16 c.args.w)) in
+    let room : c.args.self.now.series_len + 1 ≤ length places =
+    let self = c.args.self.now in let same = length-set self.series self.series_len (to_z w16 (of_z w16 c.args.w)) in omega
     (arith, same, sound_self.within.series_places, c.requires.room) in
     sym (length-take-le _ places (omega (arith, room)))
 
@@ -41,10 +41,10 @@ verdict-requires c = c.limits-l.ensures.bounded
 pub returns : goal.returns
 unfolding add_word state_of
 returns c =
-    let sound_self : Given c.args.self = given c.args.self (search rules) (search rules) c.requires.sound in
-    let places : List ℤ = let self = c.args.self in set self.series self.series_len (to_z w16 (of_z w16 c.args.w)) in
-    let judged : let self = c.args.self in take (self.series_len + 1) places ≡ (add_word (state_of self) c.args.w).series =
-    let self = c.args.self in let i = self.series_len in let some : i < length self.series = omega
+    let sound_self : Given c.args.self.now = given c.args.self.now (search rules) (search rules) c.requires.sound in
+    let places : List ℤ = let self = c.args.self.now in set self.series self.series_len (to_z w16 (of_z w16 c.args.w)) in
+    let judged : let self = c.args.self.now in take (self.series_len + 1) places ≡ (add_word (state_of self) c.args.w).series =
+    let self = c.args.self.now in let i = self.series_len in let some : i < length self.series = omega
     (arith, sound_self.within.series_places, c.requires.room) in rw (to_z-of_z c.ranges.w, add-one)
     (take-suc-set self.series i c.args.w some) in
-    rw c.limits-l.ensures.same at c.verdict.ensures ∙ ap (verdict (limits_for (state_of c.args.self))) judged
+    rw c.limits-l.ensures.same at c.verdict.ensures ∙ ap (verdict (limits_for (state_of c.args.self.now))) judged
