@@ -3,7 +3,11 @@
 -- limit itself (`limits_compared`). A chart that is not sound is refused.
 use Rattle.std.proofs.Common.{◌≡◌, ℕ, ◌*◌, true, false, length, ℤ, nat_abs, ap, ◌∙◌, arith, to_z-of_z, w16, SFits, to_z, of_z}
 use lib.Ieee.{Float}
+use mathlib.Core.Path.{sym}
+use mathlib.Core.Bool.{Bool}
+use Rattle.rules.specs.Choice.{require}
 use Rattle.rules.specs.Outcome.{given, refused}
+use Rattle.rules.proofs.Outcome.{same_given, same_refused, given_not_refused, require_given}
 use Rattle.rules.specs.Kind.{has_lower}
 use Rattle.rules.specs.Limits as limits
 use Rattle.rules.specs.Limits.{sums_of, limits_of, sum_of_squares, control_multiple, warning_multiple}
@@ -139,6 +143,20 @@ pub lines_declined : (c : Chart) → sound_chart c ≡ false → refused 14 ≡ 
 unfolding answer_to_lines
 lines_declined c t = rw t
 
-pub comparison_declined : (c : Chart) (w : ℤ) → sound_chart c ≡ false → refused 14 ≡ answer_to_against c w
-unfolding answer_to_against
-comparison_declined c w t = rw t
+-- ---- a word against the lines that were asked for. The answer to asking says whether the chart is sound
+
+refused_alike : {A B : Type 0} (t : Bool) (n : ℕ) (x : A) (y : B) → refused n ≡ require t (refused 14) (given x)
+    → refused n ≡ require t (refused 14) (given y)
+refused_alike true n x y e = given_not_refused (sym e)
+refused_alike false n x y e = ap refused (same_refused e)
+
+pub comparison_refused : (c : Chart) (w : ℤ) (n : ℕ) → refused n ≡ answer_to_lines c → refused n ≡ answer_to_against c w
+unfolding answer_to_lines answer_to_against
+comparison_refused c w n e = refused_alike (sound_chart c) n _ _ e
+
+pub lines_compared_then : (c : Chart) (w : ℤ) (lines : Lines) (b : BeyondEach) → SFits w16 w → given (lines_say lines) ≡ answer_to_lines c
+    → beyond_says b ≡ float_beyond (lines_say lines) (to_z w16 (of_z w16 w)) → given (beyond_says b) ≡ answer_to_against c w
+unfolding answer_to_lines
+lines_compared_then c w lines b fit e is =
+    let asked = require_given (sound_chart c) 14 (given (lines_of (limits_for (state_of c)))) (lines_say lines) (sym e) in
+    comparison_given c asked.holds w b (lines_compared c asked.holds w lines b fit (sym (same_given asked.gives)) is)

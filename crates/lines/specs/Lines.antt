@@ -1,5 +1,5 @@
 -- What the values of `lines` say in the paper's terms, and what its functions give.
-use Rattle.std.specs.Prelude.{◌≡◌, ℕ, ◌*◌, ◌^◌, ◌≤◌, Bool, ℤ, pos, ◌+ℤ◌, ◌-ℤ◌, ◌*ℤ◌, nat_lt, unsigned_abs, Float}
+use Rattle.std.specs.Prelude.{◌≡◌, ℕ, ◌*◌, ◌^◌, ◌≤◌, Bool, ℤ, pos, ◌+ℤ◌, ◌-ℤ◌, ◌*ℤ◌, nat_lt, unsigned_abs, Float, Result, Ok, Err}
 use Rattle.std.specs.Float.Ieee.{lt, of_int}
 use Rattle.std.specs.Float.{binary64}
 use Rattle.rules.specs.Outcome.{Outcome, given, refused}
@@ -13,6 +13,8 @@ use Rattle.rules.specs.Sizes.{line_parts}
 use Rattle.rules.specs.Lines.{quotient_down, quotient_up, upper_line, lower_line, mean_line}
 use Rattle.rules.specs.ChartLines.{lines_of, beyond_each, beyond_by}
 use Rattle.rules.specs.ChartLines as rules
+use Rattle.refusals.specs.Refusal.{refusal_number}
+use Rattle.refusals.specs.declared.Refusal.{Refusal}
 use Rattle.limits.specs.declared.Sums.{Sums}
 use Rattle.limits.specs.Sums.{Bounded}
 use Rattle.chart.specs.declared.Chart.{Chart}
@@ -20,11 +22,7 @@ use Rattle.chart.specs.Chart.{state_of}
 use Rattle.chart.specs.Soundness.{sound_chart}
 use Rattle.lines.specs.declared.Lines.{Lines}
 use Rattle.lines.specs.declared.Lines.TheVariants as lines
-use Rattle.lines.specs.declared.LinesAnswer.{LinesAnswer}
-use Rattle.lines.specs.declared.LinesAnswer.TheVariants as answer
 use Rattle.lines.specs.declared.BeyondEach.{BeyondEach}
-use Rattle.lines.specs.declared.AgainstAnswer.{AgainstAnswer}
-use Rattle.lines.specs.declared.AgainstAnswer.TheVariants as against
 
 -- ---- what the cases say
 
@@ -33,9 +31,9 @@ unfoldable pub lines_say : Lines → rules.Lines
 lines_say (lines.Duplicate mean upper_warning upper_control) = rules.duplicate mean upper_warning upper_control
 lines_say (lines.TwoSided l) = rules.two_sided l.mean l.lower_warning l.upper_warning l.lower_control l.upper_control
 
-unfoldable pub lines_answer_says : LinesAnswer → Outcome rules.Lines
-lines_answer_says (answer.Done l) = given (lines_say l)
-lines_answer_says (answer.Refused n) = refused n
+unfoldable pub lines_answer_says : Result Lines Refusal → Outcome rules.Lines
+lines_answer_says (Ok l) = given (lines_say l)
+lines_answer_says (Err r) = refused (refusal_number r)
 
 unfoldable pub beyond_says : BeyondEach → rules.BeyondEach
 beyond_says b =
@@ -47,9 +45,9 @@ beyond_says b =
     }
 
 -- whether the word is beyond each limit, or the number of the refusal
-unfoldable pub against_says : AgainstAnswer → Outcome rules.BeyondEach
-against_says (against.Done b) = given (beyond_says b)
-against_says (against.Refused n) = refused n
+unfoldable pub against_says : Result BeyondEach Refusal → Outcome rules.BeyondEach
+against_says (Ok b) = given (beyond_says b)
+against_says (Err r) = refused (refusal_number r)
 
 -- ---- what the calls answer: "lines 14"
 

@@ -24,6 +24,7 @@ ghost use Rattle.lines.specs.Lines.{HasLines, lines_say, lines_answer_says, agai
 use chart::Chart;
 use limits::{CONTROL, Limits, WARNING, beyond, has_lower, limits_of};
 use parts::{deviation_parts, lower_parts, mean_parts, upper_parts};
+use refusals::Refusal;
 
 #[derive(Clone, Copy)]
 pub struct TwoSidedLines {
@@ -45,12 +46,6 @@ pub enum Lines {
     TwoSided(TwoSidedLines),
 }
 
-#[derive(Clone, Copy)]
-pub enum LinesAnswer {
-    Done(Lines),
-    Refused(u16),
-}
-
 // Whether a word is beyond each limit. Kind 1 has no lower limits, so no word is beyond them.
 #[derive(Clone, Copy)]
 pub struct BeyondEach {
@@ -60,30 +55,22 @@ pub struct BeyondEach {
     pub upper_control: bool,
 }
 
-#[derive(Clone, Copy)]
-pub enum AgainstAnswer {
-    Done(BeyondEach),
-    Refused(u16),
-}
-
 // The lines of a chart.
-pub fn lines_of(chart: Chart) -> LinesAnswer
+pub fn lines_of(chart: Chart) -> Result<Lines, Refusal>
     ensures { lines_answer_says result ≡ answer_to_lines chart }
 {
     if !chart.sound() {
-        return LinesAnswer::Refused(14);
+        return Err(Refusal::NotSound);
     }
-    LinesAnswer::Done(lines_of_sound(chart))
+    Ok(lines_of_sound(chart))
 }
 
 // Whether a word is beyond each line of a chart, by the doubles. The exact limits give the same answer.
-pub fn against_lines(chart: Chart, word: i16) -> AgainstAnswer
+pub fn against_lines(chart: Chart, word: i16) -> Result<BeyondEach, Refusal>
     ensures { against_says result ≡ answer_to_against chart word }
 {
-    if !chart.sound() {
-        return AgainstAnswer::Refused(14);
-    }
-    AgainstAnswer::Done(beyond_lines(lines_of_sound(chart), word))
+    let lines = lines_of(chart)?;
+    Ok(beyond_lines(lines, word))
 }
 
 // ---- the same for a chart that is known to be sound, such as one that was just read
