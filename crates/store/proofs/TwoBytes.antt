@@ -1,23 +1,24 @@
 -- Laws of numbers in two bytes, as the code makes them: a word's number (`bits_are`), a number's word (`word_is`), the number at a byte
--- (`number_is`), a number put by two stores (`placed_number`), words put one after the other (`words_put`, `words_then`), a record put in
+-- (`number_is`), a number put by a copy of two bytes (`placed_number`), words put one after the other (`words_end`, `words_then`), a record put in
 -- parts (`record_placed`).
 use mathlib.Core.Path.{◌≡◌, refl, ◌∙◌}
 use mathlib.Core.List.{List, [], ◌∷◌, map, map-append}
 use Prim.Native.Nat.{ℕ, suc, ◌+◌, ◌*◌, ◌-◌, ◌/◌, ◌%◌, ◌<◌, ◌≤◌}
 use native.Mathlib.Omega.{arith}
 use native.Mathlib.Numerals.{add-one}
-use lib.ListN.{length, take, drop, get_or, set, length-map, length-take, length-set}
+use lib.ListN.{length, take, drop, get_or, length-map, length-take}
 use lib.Seq.{take-suc, get_or-drop}
 use lib.IntN.{ℤ, pos, negsuc}
 use lib.Dec.{ltb}
+use borrow.Rule.Slice.PartMut.{put_mid, Post-is}
 use mir.Syntax.{w16}
 use mir.Val.{to_z, of_z}
 use Rattle.rules.specs.Bytes.{bytes_of, number_in, number_of, word_of}
 use Rattle.rules.specs.StoredForm.{record_of}
 use Rattle.rules.proofs.Booleans.{by_test}
 use Rattle.rules.proofs.Bytes.{length_bytes, bytes_joined}
-use Rattle.rules.proofs.Buffer.{placed_one, placed_then, placed_length}
-use Rattle.rules.specs.Buffer.{Placed}
+use Rattle.rules.proofs.Buffer.{placed_then}
+use Rattle.rules.specs.Buffer.{Placed, overwritten}
 use Rattle.store.specs.Store.{record_size}
 
 -- ---- words and their numbers
@@ -48,23 +49,15 @@ number_is bytes at =
 
 -- ---- numbers that are put into a buffer
 
--- a number put by two stores
-pub placed_number : (buffer : List ℕ) (at n : ℕ) → at + 2 ≤ length buffer
-    → Placed buffer at (bytes_of (n ∷ [])) (set (set buffer at (n % 256)) (at + 1) (n / 256)) (at + 2)
-unfolding bytes_of
-placed_number buffer at n room =
-    let lower = n % 256 in
-    let upper = n / 256 in
-    let next : at + 1 < length (set buffer at lower) = simp length-set (omega arith) in
-    let end : at + 1 + 1 ≡ at + 2 = omega arith in
-    rw end
-    at (placed_then (lower ∷ []) (upper ∷ []) (omega arith) (placed_one buffer at lower (omega arith))
-    (placed_one (set buffer at lower) (at + 1) upper next))
+-- a number put by a copy of its two bytes
+pub placed_number : (buffer : List ℕ) (at n : ℕ) (two : List ℕ) → n < 65536 → two ≡ n % 256 ∷ (n / 256 % 256 ∷ [])
+    → Placed buffer at (bytes_of (n ∷ [])) (put_mid at (at + 2 - at) buffer two) (at + 2)
+unfolding bytes_of overwritten
+placed_number buffer at n two small is =
+    let upper : n / 256 % 256 ≡ n / 256 = omega arith in
+    record { buffer = rw (is, upper, Post-is at (at + 2) buffer (omega arith)); place = refl }
 
--- the place after i words that are put from `at` on, and the buffer's length
-pub record WordsPut (before : List ℕ) (at i : ℕ) (after : List ℕ) (next : ℕ) : Type 0 where
-  pub place : next ≡ at + 2 * i
-  pub size : length after ≡ length before
+-- ---- words that are put into a buffer, one after the other
 
 module _ (words : List ℤ) (i : ℕ) where
   -- the first i words
@@ -74,11 +67,9 @@ module _ (words : List ℤ) (i : ℕ) where
   length_first : i ≤ length words → length bytes_of_first ≡ 2 * i
   length_first some = simp (length_bytes, length-map, length-take) (omega arith)
 
-  pub words_put : {before after : List ℕ} {at next : ℕ} → i ≤ length words → at + 2 * length words ≤ length before
-      → Placed before at bytes_of_first after next → WordsPut before at i after next
-  words_put some room placed =
-      let count = length_first some in
-      record { place = placed.place ∙ omega arith; size = placed_length bytes_of_first (omega arith) placed }
+  -- the place after them
+  pub words_end : {before after : List ℕ} {at next : ℕ} → i ≤ length words → Placed before at bytes_of_first after next → next ≡ at + 2 * i
+  words_end some placed = placed.place ∙ omega (arith, length_first some)
 
   -- and then the number n of the next word
   pub words_then : {before out after : List ℕ} {at next end n : ℕ} → i < length words → at + 2 * length words ≤ length before

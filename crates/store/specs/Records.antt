@@ -1,20 +1,16 @@
 -- What the functions that look for records give. They apply the definitions of `rules/specs/ReadForm` to the bytes from a given byte on.
-use Rattle.std.specs.Prelude.{List, map, ℕ, ◌+◌, ◌*◌, ◌≤◌, length, drop, ℤ}
+use Rattle.std.specs.Prelude.{Option, Some, None, List, map, ℕ, ◌+◌, ◌*◌, ◌≤◌, length, drop, ℤ}
 use Rattle.rules.specs.Choice.{choose}
 use Rattle.rules.specs.Bytes.{numbers_in, word_of}
 use Rattle.rules.specs.Buffer.{at_front}
 use Rattle.rules.specs.ReadForm.{length_in, record_kind_in, count_in, is_record, starts_with, is_form}
-use Rattle.store.specs.declared.reader.Seen.{Seen}
-use Rattle.store.specs.declared.reader.Seen.TheVariants as seen
+use Rattle.store.specs.declared.reader.Record.{Record}
 use Rattle.store.specs.declared.records.Place.{Place}
-use Rattle.store.specs.declared.records.Found.{Found}
-use Rattle.store.specs.declared.records.Found.TheVariants as found
 use Rattle.store.specs.declared.Layout.{Layout}
-use Rattle.store.specs.declared.Layout.TheVariants as layout
 
 -- the record at the front of the bytes, of any record kind
-unfoldable pub record_in : List ℕ → Seen
-record_in bytes = choose (is_record bytes) (seen.Record (record_kind_in bytes) (count_in bytes)) seen.Nothing
+unfoldable pub record_in : List ℕ → Option Record
+record_in bytes = choose (is_record bytes) (Some (record { kind = record_kind_in bytes; count = count_in bytes })) None
 
 -- the place of the record that begins at a byte. Its first number comes after its length and its record kind
 unfoldable pub place_at : ℕ → List ℕ → Place
@@ -23,9 +19,9 @@ place_at at bytes =
     record { first = at + 4; count = count_in there; end = at + (2 + length_in there) }
 
 -- the record that begins at a byte, if it has this record kind and from `least` to `most` numbers
-unfoldable pub record_at : (record_kind least most : ℕ) → ℕ → List ℕ → Found
+unfoldable pub record_at : (record_kind least most : ℕ) → ℕ → List ℕ → Option Place
 record_at record_kind least most at bytes =
-    choose (starts_with record_kind least most (drop at bytes)) (found.Record (place_at at bytes)) found.Nothing
+    choose (starts_with record_kind least most (drop at bytes)) (Some (place_at at bytes)) None
 
 -- the places of the three records of a stored form. Each record begins where the one before it ends
 unfoldable pub head_place : List ℕ → Place
@@ -37,8 +33,11 @@ base_place bytes = place_at (head_place bytes).end bytes
 unfoldable pub series_place : List ℕ → Place
 series_place bytes = place_at (base_place bytes).end bytes
 
-unfoldable pub layout_of : List ℕ → Layout
-layout_of bytes = choose (is_form bytes) (layout.Form (head_place bytes) (base_place bytes) (series_place bytes)) layout.Other
+unfoldable pub layout_of : List ℕ → Option Layout
+layout_of bytes =
+    choose (is_form bytes)
+    (Some (record { head = head_place bytes; base = base_place bytes; series = series_place bytes }))
+    None
 
 -- the numbers of the record at a place
 unfoldable pub numbers_at : List ℕ → Place → List ℕ

@@ -11,7 +11,7 @@ mod numbers;
 mod reader;
 mod records;
 
-ghost use Rattle.std.specs.Prelude.{◌≡◌, true, ◌≤◌, length};
+ghost use Rattle.std.specs.Prelude.{◌≡◌, true, ◌≤◌, length, Some};
 ghost use Rattle.rules.specs.Outcome.{refused};
 ghost use Rattle.rules.specs.Sizes.{base_most, series_most};
 ghost use Rattle.rules.specs.StoredForm.{stored_form};
@@ -21,13 +21,12 @@ ghost use Rattle.chart.specs.Soundness.{sound_chart};
 ghost use Rattle.rules.specs.Buffer.{Placed};
 ghost use Rattle.store.specs.Records.{layout_of, LiesWithin, filled_from};
 ghost use Rattle.store.specs.Store.{Writes, IsRead, Returns, form_size};
-ghost use Rattle.store.specs.declared.Layout.TheVariants as layout;
 
 use chart::soundness::is_sound;
 use chart::{Chart, zero_chart};
 use numbers::word_of;
 use reader::{BEFORE_NUMBERS, Cursor};
-use records::{Found, Place, find_record, nth_number, put_record};
+use records::{Place, find_record, nth_number, put_record};
 
 #[derive(Clone, Copy)]
 pub enum WriteAnswer {
@@ -50,14 +49,10 @@ pub struct ReadChart {
 
 // The places of the three records of a stored form.
 #[derive(Clone, Copy)]
-enum Layout {
-    Form {
-        head: Place,
-        base: Place,
-        series: Place,
-    },
-    // The bytes are not a stored form.
-    Other,
+struct Layout {
+    head: Place,
+    base: Place,
+    series: Place,
 }
 
 // The record kinds.
@@ -100,10 +95,10 @@ pub fn write_sound(chart: Chart, out: &mut [u8]) -> WriteAnswer
 pub fn read(bytes: &[u8]) -> ReadChart
     ensures { IsRead (reading bytes.now) result }
 {
-    let Layout::Form { head, base, series } = lay_out(bytes) else {
+    let Some(layout) = lay_out(bytes) else {
         return declined_read(13);
     };
-    read_form(bytes, head, base, series)
+    read_form(bytes, layout)
 }
 
 // Writes a chart and reads the written bytes back. This gives the same chart. If writing refuses, the answer is the number of the refusal
@@ -151,48 +146,38 @@ fn put_form(chart: Chart, out: &mut [u8]) -> usize
 // ---- reading
 
 // Finds the three records, one after the other, with nothing after them.
-fn lay_out(bytes: &[u8]) -> Layout
+fn lay_out(bytes: &[u8]) -> Option<Layout>
     ensures { result ≡ layout_of bytes.now }
 {
-    let Found::Record(head) = find_record(
-        bytes,
-        Cursor { at: 0 },
-        HEAD_KIND,
-        HEAD_COUNT,
-        HEAD_COUNT,
-    ) else {
-        return Layout::Other;
-    };
-    let Found::Record(base) = find_record(
+    let head = find_record(bytes, Cursor { at: 0 }, HEAD_KIND, HEAD_COUNT, HEAD_COUNT)?;
+    let base = find_record(
         bytes,
         Cursor { at: head.end },
         BASE_KIND,
         Chart::BASE_LEAST,
         Chart::BASE_MOST,
-    ) else {
-        return Layout::Other;
-    };
-    let Found::Record(series) = find_record(
+    )?;
+    let series = find_record(
         bytes,
         Cursor { at: base.end },
         SERIES_KIND,
         0,
         Chart::SERIES_MOST,
-    ) else {
-        return Layout::Other;
-    };
+    )?;
     if series.end < bytes.len() {
-        return Layout::Other;
+        return None;
     }
-    Layout::Form { head, base, series }
+    Some(Layout { head, base, series })
 }
 
 // The chart that the three records hold. The soundness test runs on the two arrays into which the words were read. The chart is then made
 // once, inside the answer. A test of a chart value would copy the arrays once for the test, and once more into the answer.
-fn read_form(bytes: &[u8], head: Place, base: Place, series: Place) -> ReadChart
-    requires { layout_of bytes.now ≡ layout.Form head base series }
+#[tactic(auto, using(crate::proofs::Reading::base_few, crate::proofs::Reading::series_few))]
+fn read_form(bytes: &[u8], layout: Layout) -> ReadChart
+    requires { layout_of bytes.now ≡ Some layout }
     ensures { IsRead (reading bytes.now) result }
 {
+    let Layout { head, base, series } = layout;
     let kind = nth_number(bytes, head, 0);
     let status = nth_number(bytes, head, 1);
     let open_verdict = nth_number(bytes, head, 2);
@@ -230,10 +215,8 @@ fn fill(words: &mut [i16], bytes: &[u8], place: Place)
     requires { (place.count ≤ length words.old) × LiesWithin bytes.now place }
     ensures { words.new ≡ filled_from bytes.now place words.old }
 {
-    let mut i: usize = 0;
-    while i < place.count {
-        words[i] = word_of(nth_number(bytes, place, i));
-        i += 1;
+    for (i, word) in words[..place.count].iter_mut().enumerate() {
+        *word = word_of(nth_number(bytes, place, i));
     }
 }
 

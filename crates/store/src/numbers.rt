@@ -3,38 +3,29 @@ ghost use Rattle.std.specs.Prelude.{◌≡◌, [], ◌∷◌, map, ◌+◌, ◌*
 ghost use Rattle.rules.specs.Bytes.{bytes_of, number_in, number_of, word_of};
 ghost use Rattle.rules.specs.Buffer.{Placed};
 
-// The number that stands for a word. For a word w below 0, `!w` is −w − 1, which is not below 0.
+// The number that stands for a word.
+#[tactic(auto, using(crate::proofs::TwoBytes::bits_are))]
 pub fn number_of(w: i16) -> u16
     ensures { result ≡ number_of w }
 {
-    if w < 0 {
-        let below = !w;
-        65535 - (below as u16)
-    } else {
-        w as u16
-    }
+    w.cast_unsigned()
 }
 
-// The word that a number stands for. For n from 32768 on the word is below 0, and `!` of the word is 65535 − n.
+// The word that a number stands for.
+#[tactic(auto, using(crate::proofs::TwoBytes::word_is))]
 pub fn word_of(n: u16) -> i16
     ensures { result ≡ word_of n }
 {
-    if n < 32768 {
-        n as i16
-    } else {
-        let below = (65535 - n) as i16;
-        !below
-    }
+    n.cast_signed()
 }
 
 // The number that begins at a byte.
+#[tactic(auto, using(crate::proofs::TwoBytes::number_is))]
 pub fn number_at(bytes: &[u8], at: usize) -> u16
     requires { at + 2 ≤ length bytes.now }
     ensures { result ≡ number_in (drop at bytes.now) }
 {
-    let lower = bytes[at] as u16;
-    let upper = bytes[at + 1] as u16;
-    lower + 256 * upper
+    u16::from_le_bytes([bytes[at], bytes[at + 1]])
 }
 
 // Puts a number into the buffer from a byte on. Answers the byte after it.
@@ -42,8 +33,7 @@ pub fn put_number(out: &mut [u8], at: usize, n: u16) -> usize
     requires { at + 2 ≤ length out.old }
     ensures { Placed out.old at (bytes_of (n ∷ [])) out.new result }
 {
-    out[at] = (n % 256) as u8;
-    out[at + 1] = (n / 256) as u8;
+    out[at..at + 2].copy_from_slice(&n.to_le_bytes());
     at + 2
 }
 
@@ -53,10 +43,8 @@ pub fn put_word_numbers(out: &mut [u8], at: usize, words: &[i16]) -> usize
     ensures { Placed out.old at (bytes_of (map number_of words.now)) out.new result }
 {
     let mut next = at;
-    let mut i: usize = 0;
-    while i < words.len() {
-        next = put_number(out, next, number_of(words[i]));
-        i += 1;
+    for &w in words {
+        next = put_number(out, next, number_of(w));
     }
     next
 }

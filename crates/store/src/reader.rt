@@ -13,12 +13,11 @@ pub struct Cursor {
     pub at: usize,
 }
 
-// The record kind of the record at a cursor, and how many numbers it has.
+// The record kind of a record, and how many numbers it has.
 #[derive(Clone, Copy)]
-pub enum Seen {
-    Record { kind: u16, count: usize },
-    // The bytes there are not a record.
-    Nothing,
+pub struct Record {
+    pub kind: u16,
+    pub count: usize,
 }
 
 #[derive(Clone, Copy)]
@@ -28,7 +27,7 @@ pub struct Reader<'a> {
 }
 
 // The record at the cursor, through a reader. The rest of the crate calls this function.
-pub fn see_record_at(bytes: &[u8], cursor: Cursor) -> Seen
+pub fn see_record_at(bytes: &[u8], cursor: Cursor) -> Option<Record>
     ensures { result ≡ record_in (drop cursor.at bytes.now) }
 {
     see_record(reader_on(bytes, cursor))
@@ -40,7 +39,7 @@ pub fn reader_on<'a>(bytes: &'a [u8], cursor: Cursor) -> Reader<'a>
     Reader { bytes, cursor }
 }
 
-pub fn see_record<'a>(reader: Reader<'a>) -> Seen
+pub fn see_record<'a>(reader: Reader<'a>) -> Option<Record>
     ensures { result ≡ record_in (drop reader.entry.cursor.at reader.entry.bytes.now) }
 {
     record_at(reader.bytes, reader.cursor)
@@ -48,27 +47,23 @@ pub fn see_record<'a>(reader: Reader<'a>) -> Seen
 
 // The record at the cursor, if there is one. Its length counts a record kind and numbers of two bytes each, so it is even and at least 2.
 // The bytes must go on for that length.
-pub fn record_at(bytes: &[u8], cursor: Cursor) -> Seen
+pub fn record_at(bytes: &[u8], cursor: Cursor) -> Option<Record>
     ensures { result ≡ record_in (drop cursor.at bytes.now) }
 {
     let at = cursor.at;
-    let size = bytes.len();
-    if size < at {
-        return Seen::Nothing;
-    }
-    let left = size - at;
+    let left = bytes.len().checked_sub(at)?;
     if left < BEFORE_NUMBERS {
-        return Seen::Nothing;
+        return None;
     }
     let length = number_at(bytes, at) as usize;
-    if (length < 2) | (length % 2 != 0) {
-        return Seen::Nothing;
+    if length < 2 || length % 2 != 0 {
+        return None;
     }
     if left - 2 < length {
-        return Seen::Nothing;
+        return None;
     }
-    Seen::Record {
+    Some(Record {
         kind: number_at(bytes, at + 2),
         count: (length - 2) / 2,
-    }
+    })
 }

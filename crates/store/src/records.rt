@@ -8,7 +8,7 @@ ghost use Rattle.store.specs.Records.{record_at, numbers_at, LiesWithin};
 ghost use Rattle.store.specs.Store.{record_size};
 
 use crate::numbers::{number_at, put_number, put_word_numbers};
-use crate::reader::{BEFORE_NUMBERS, Cursor, Seen, see_record_at};
+use crate::reader::{BEFORE_NUMBERS, Cursor, Record, see_record_at};
 
 // The place of a record in the bytes: the byte at which its first number begins, how many numbers it has, and the byte after the record.
 #[derive(Clone, Copy)]
@@ -16,13 +16,6 @@ pub struct Place {
     pub first: usize,
     pub count: usize,
     pub end: usize,
-}
-
-#[derive(Clone, Copy)]
-pub enum Found {
-    Record(Place),
-    // There is no record, or it is not the one asked for.
-    Nothing,
 }
 
 // Puts a record of words into the buffer from a byte on. Answers the byte after it.
@@ -37,27 +30,25 @@ pub fn put_record(out: &mut [u8], at: usize, record_kind: u16, words: &[i16]) ->
 }
 
 // The record at the cursor, if it has this record kind and from `least` to `most` numbers.
+#[tactic(auto, using(crate::proofs::RecordsIn::record_within))]
 pub fn find_record(
     bytes: &[u8],
     cursor: Cursor,
     record_kind: u16,
     least: usize,
     most: usize,
-) -> Found
+) -> Option<Place>
     ensures { result ≡ record_at record_kind least most cursor.at bytes.now }
 {
-    let at = cursor.at;
-    let Seen::Record { kind, count } = see_record_at(bytes, cursor) else {
-        return Found::Nothing;
-    };
+    let Record { kind, count } = see_record_at(bytes, cursor)?;
     if kind != record_kind {
-        return Found::Nothing;
+        return None;
     }
-    if (count < least) | (most < count) {
-        return Found::Nothing;
+    if count < least || most < count {
+        return None;
     }
-    let first = at + BEFORE_NUMBERS;
-    Found::Record(Place {
+    let first = cursor.at + BEFORE_NUMBERS;
+    Some(Place {
         first,
         count,
         end: first + 2 * count,
