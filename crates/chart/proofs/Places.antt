@@ -18,6 +18,14 @@ use Rattle.rules.proofs.Booleans.{both}
 use Rattle.chart.specs.Pad.{pad}
 use Rattle.chart.specs.Soundness.{is_zero, unused_hold_zero}
 
+-- equal places without the first n
+pub drop-replicate {ℓ} : {A : Type ℓ} (n size : ℕ) (x : A) → drop n (replicate size x) ≡ replicate (size - n) x
+drop-replicate zero size x = let none : size ≡ size - 0 = omega arith in ap (λ (k : ℕ). replicate k x) none
+drop-replicate (suc n) zero x = let none : 0 ≡ 0 - suc n = omega arith in ap (λ (k : ℕ). replicate k x) none
+drop-replicate (suc n) (suc size) x =
+    let one : size - n ≡ suc size - suc n = omega arith in
+    drop-replicate n size x ∙ ap (λ (k : ℕ). replicate k x) one
+
 module _ {ℓ} {A : Type ℓ} (filler : A) (size : ℕ) where
   -- the list again, taken from the places
   pub take-pad : (l : List A) (n : ℕ) → n ≡ length l → take n (pad filler size l) ≡ l
@@ -31,6 +39,11 @@ module _ {ℓ} {A : Type ℓ} (filler : A) (size : ℕ) where
   pad_snoc l a n e h =
       let f : size - length l ≡ suc (size - length (l ++ (a ∷ []))) = omega (arith, length-append l (a ∷ [])) in
       rw (f, set_at l filler (replicate (size - length (l ++ (a ∷ []))) filler) a n (sym e), append_assoc)
+
+  -- a list is copied to the front of places that hold the filler
+  pub pad-front : (l : List A) {front : List A} → front ≡ l → front ++ drop (length l) (replicate size filler) ≡ pad filler size l
+  unfolding pad
+  pad-front l is = rw (is, drop-replicate (length l) size filler)
 
 -- a loop that copies a list place by place: after i turns its first i elements are in place
 pub record Copied {A : Type 0} (filler : A) (size : ℕ) (l : List A) (i : ℕ) (places : List A) : Type 0 where
@@ -50,14 +63,6 @@ module _ {A : Type 0} {filler : A} {size : ℕ} (l : List A) where
 
     pub copied_all : length l ≤ i → places ≡ pad filler size l
     copied_all h = k.front ∙ ap (pad filler size) (take_all i l h)
-
--- equal places without the first n
-pub drop-replicate {ℓ} : {A : Type ℓ} (n size : ℕ) (x : A) → drop n (replicate size x) ≡ replicate (size - n) x
-drop-replicate zero size x = let none : size ≡ size - 0 = omega arith in ap (λ (k : ℕ). replicate k x) none
-drop-replicate (suc n) zero x = let none : 0 ≡ 0 - suc n = omega arith in ap (λ (k : ℕ). replicate k x) none
-drop-replicate (suc n) (suc size) x =
-    let one : size - n ≡ suc size - suc n = omega arith in
-    drop-replicate n size x ∙ ap (λ (k : ℕ). replicate k x) one
 
 -- the first i of the first n are the first i of all
 pub take_fewer {ℓ} : {A : Type ℓ} (i n : ℕ) (l : List A) → i ≤ n → take i (take n l) ≡ take i l

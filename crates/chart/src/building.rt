@@ -70,11 +70,6 @@ fn padded(words: &[i16]) -> [i16; Chart::BASE_MOST]
     ensures { result ≡ pad (pos 0) base_most words.now }
 {
     let mut base = [0i16; Chart::BASE_MOST];
-    let mut i: usize = 0;
-    while i < words.len() {
-        let w = words[i];
-        base[i] = w;
-        i += 1;
-    }
+    base[..words.len()].copy_from_slice(words);
     base
 }

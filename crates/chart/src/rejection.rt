@@ -89,10 +89,8 @@ fn marks_beyond(l: Limits, words: [i16; Chart::BASE_MOST], n: usize) -> [bool; C
     ensures { result ≡ pad false base_most (map (beyond_control (limits_say l)) (take n words)) }
 {
     let mut marks = [false; Chart::BASE_MOST];
-    let mut i: usize = 0;
-    while i < n {
-        marks[i] = beyond_control(l, words[i]);
-        i += 1;
+    for (i, &w) in words[..n].iter().enumerate() {
+        marks[i] = beyond_control(l, w);
     }
     marks
 }
@@ -108,14 +106,11 @@ fn without_marked(
 {
     let mut left = [0i16; Chart::BASE_MOST];
     let mut kept: usize = 0;
-    let mut i: usize = 0;
-    while i < n {
+    for (i, &w) in words[..n].iter().enumerate() {
         if !marks[i] {
-            let w = words[i];
             left[kept] = w;
             kept += 1;
         }
-        i += 1;
     }
     Standing {
         words: left,
@@ -134,12 +129,10 @@ fn less_marked(
     ensures { sums_say result ≡ less_words (sums_say sums) (marked (take n marks) (take n words)) }
 {
     let mut less = sums;
-    let mut i: usize = 0;
-    while i < n {
+    for (i, &w) in words[..n].iter().enumerate() {
         if marks[i] {
-            less = without_word(less, words[i]);
+            less = without_word(less, w);
         }
-        i += 1;
     }
     less
 }

@@ -37,15 +37,7 @@ fn places_sound(c: Chart) -> bool
 fn zero_from(places: &[i16], n: usize) -> bool
     ensures { result ≡ unused_hold_zero n places.now }
 {
-    let mut i: usize = n;
-    while i < places.len() {
-        let w = places[i];
-        if w != 0 {
-            return false;
-        }
-        i += 1;
-    }
-    true
+    n >= places.len() || places[n..].iter().all(|w| *w == 0)
 }
 
 // The state that the chart stands for is sound.
@@ -83,6 +75,5 @@ fn words_sound(kind: u16, base: &[i16], series: &[i16]) -> bool
 fn are_counts(base: usize, series: usize) -> bool
     ensures { result ≡ are_counts base series }
 {
-    let is_base = (Chart::BASE_LEAST <= base) & (base <= Chart::BASE_MOST);
-    is_base & (series <= Chart::SERIES_MOST)
+    (Chart::BASE_LEAST..=Chart::BASE_MOST).contains(&base) & (series <= Chart::SERIES_MOST)
 }

@@ -15,14 +15,12 @@ pub fn reject_tail(kind: u16, base: &[i16], series: &[i16]) -> RejectionAnswer
     ensures { IsRejection (tail_rejection kind (base.now ++ series.now)) result }
 {
     let all = base.len() + series.len();
-    let mut k: usize = Chart::BASE_WANTED;
-    while (k <= all) & (k <= Chart::BASE_MOST) {
+    for k in Chart::BASE_WANTED..=all.min(Chart::BASE_MOST) {
         let r = reject(kind, last_of_both(base, series, k), k);
         let left = r.left;
         if Chart::BASE_WANTED <= left.n {
             return r;
         }
-        k += 1;
     }
     no_tail()
 }
@@ -47,25 +45,10 @@ fn last_of_both(base: &[i16], series: &[i16], k: usize) -> [i16; Chart::BASE_MOS
     requires { HasTail base.now series.now k }
     ensures { result ≡ pad (pos 0) base_most (last_words k (base.now ++ series.now)) }
 {
-    let first = base.len() + series.len() - k;
+    let from_series = k.min(series.len());
+    let from_base = k - from_series;
     let mut words = [0i16; Chart::BASE_MOST];
-    let mut i: usize = 0;
-    while i < k {
-        words[i] = word_at(base, series, first + i);
-        i += 1;
-    }
+    words[..from_base].copy_from_slice(&base[base.len() - from_base..]);
+    words[from_base..k].copy_from_slice(&series[series.len() - from_series..]);
     words
-}
-
-// The word at place i of the two slices, one after the other.
-fn word_at(base: &[i16], series: &[i16], i: usize) -> i16
-    requires { i < length base.now + length series.now }
-    ensures { result ≡ get_or (base.now ++ series.now) i (pos 0) }
-{
-    let n = base.len();
-    if i < n {
-        return base[i];
-    }
-    let j = i - n;
-    series[j]
 }

@@ -1,30 +1,26 @@
--- `chart::soundness::zero_from` meets its contract. The loop's invariant: the places from n on hold 0 exactly if those from i on do.
-use mathlib.Core.Path.{refl, sym, ◌∙◌}
-use native.Mathlib.Omega.{arith}
-use borrow.Author.Rules.{sfits_of}
-use Rattle.rules.proofs.AllOf.{all_none, all_fails, all_passes}
+-- `chart::soundness::zero_from` meets its contract.
+use Rattle.std.proofs.Common.{rules, tests, ◌≡◌, ℤ, Bool, List, [], ◌∷◌, ◌∙◌, ◌&&◌, ap, sym, refl, drop, le-leb}
+use Rattle.std.proofs.lemmas.List.{take_rest}
+use Rattle.std.proofs.lemmas.Iterator.{YieldsList-from_slice}
+use Rattle.std.proofs.lemmas.Iterator.Search.{all_from_yields_List}
+use Rattle.std.specs.List.{list_all}
+use Rattle.rules.specs.AllOf.{all_of}
+use Rattle.rules.proofs.AllOf.{all_none}
 use Rattle.chart.specs.Soundness.{is_zero, unused_hold_zero}
-use Rattle.chart.proofs.Places.{zero_held, not_zero_held}
 use Rattle.chart.proofs.soundness.zero_from.Goals as goal
 
-pub loop-i-init : goal.loop-i-init
-loop-i-init c = refl
+all_is : (test : ℤ → Bool) (ws : List ℤ) → list_all test ws ≡ all_of test ws
+unfolding all_of
+all_is test [] = refl
+all_is test (w ∷ ws) = ap (λ (b : Bool). test w && b) (all_is test ws)
 
-pub returns-then-w-ne0 : goal.returns-then-w-ne0
-unfolding unused_hold_zero
-returns-then-w-ne0 c =
-    let fails = not_zero_held (sfits_of c.w-1.given) c.if-w-ne0.true in
-    sym (all_fails is_zero c.args.places.now c.loop-i.i c.loop-i-test.true fails) ∙ c.loop-i.invariant
+pub returns-then-n-places : goal.returns-then-n-places
+unfolding unused_hold_zero is_zero
+returns-then-n-places c = rw (le-leb _ _ c.if-n-places.true) (sym (all_none is_zero c.args.places.now c.args.n c.if-n-places.true))
 
-pub loop-i-smaller : goal.loop-i-smaller
-loop-i-smaller c = omega arith
-
-pub loop-i-preserved : goal.loop-i-preserved
-loop-i-preserved c =
-    let passes = zero_held (sfits_of c.w-1.given) c.if-w-ne0.false in
-    sym (all_passes is_zero c.args.places.now c.loop-i.i c.loop-i-test.true passes) ∙ c.loop-i.invariant
-
-pub returns : goal.returns
-unfolding unused_hold_zero
-returns c =
-    sym (all_none is_zero c.args.places.now c.loop-i.i c.loop-i-test.false) ∙ c.loop-i.invariant
+pub returns-else-n-places : goal.returns-else-n-places
+unfolding unused_hold_zero is_zero
+returns-else-n-places c =
+    let unused = drop c.args.n c.args.places.now in
+    all_from_yields_List is_zero _ _ c.all.result c.all.ensures.ran (YieldsList-from_slice unused (c.iter.ensures.rest ∙ take_rest c.args.places.now c.args.n)) 
+    (λ x b q k. search (rules, tests)) ∙ all_is is_zero unused
