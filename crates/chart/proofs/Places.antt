@@ -1,11 +1,11 @@
 -- Laws of a list in an array that may be longer, over any type of element.
 use mathlib.Core.Path.{◌≡◌, refl, sym, ap, ◌∙◌}
 use mathlib.Core.Bool.{true, false}
-use mathlib.Core.List.{List, [], ◌∷◌, ◌++◌, append_assoc}
+use mathlib.Core.List.{List, [], ◌∷◌, ◌++◌, append_assoc, map, map-append}
 use Prim.Native.Nat.{ℕ, zero, suc, ◌+◌, ◌-◌, ◌<◌, ◌≤◌}
 use native.Mathlib.Omega.{arith}
 use native.Mathlib.Numerals.{add-one}
-use lib.ListN.{length, take, drop, set, get_or, replicate, length-append, length-drop, length-set, take-append-drop}
+use lib.ListN.{length, take, drop, set, get_or, replicate, length-append, length-drop, length-map, length-set, take-append-drop}
 use lib.Seq.{take_at, take_all, set_at, take-suc, take-suc-set, drop-set-lt, length-take-le, drop-append_seam, get_or-append-add}
 use lib.IntN.{ℤ, pos, negsuc}
 use mir.Syntax.{w16}
@@ -45,24 +45,13 @@ module _ {ℓ} {A : Type ℓ} (filler : A) (size : ℕ) where
   unfolding pad
   pad-front l is = rw (is, drop-replicate (length l) size filler)
 
--- a loop that copies a list place by place: after i turns its first i elements are in place
-pub record Copied {A : Type 0} (filler : A) (size : ℕ) (l : List A) (i : ℕ) (places : List A) : Type 0 where
-  pub front : places ≡ pad filler size (take i l)
-
-module _ {A : Type 0} {filler : A} {size : ℕ} (l : List A) where
-  pub copied_none : Copied filler size l 0 (replicate size filler)
-  unfolding pad
-  copied_none = let all : size ≡ size - 0 = omega arith in record { front = ap (λ (n : ℕ). replicate n filler) all }
-
-  module _ {i : ℕ} {places : List A} (k : Copied filler size l i places) where
-    pub copied_next : (d : A) {e : A} → i < length l → length l ≤ size → e ≡ get_or l i d → Copied filler size l (i + 1) (set places i e)
-    copied_next d h few is =
-        let n : i ≡ length (take i l) = sym (length-take-le i l (omega arith)) in
-        let more : take i l ++ (get_or l i d ∷ []) ≡ take (i + 1) l = sym (rw (add-one, take-suc l i d)) in
-        record { front = rw (is, k.front) (pad_snoc filler size (take i l) (get_or l i d) i n (omega arith) ∙ ap (pad filler size) more) }
-
-    pub copied_all : length l ≤ i → places ≡ pad filler size l
-    copied_all h = k.front ∙ ap (pad filler size) (take_all i l h)
+-- a loop that puts f of each element of a list in its place: f of the first i elements is in place, and now that of the next one is
+pub pad_next : {A B : Type 0} (filler : B) (size : ℕ) (f : A → B) (l : List A) (i : ℕ) (d : A) {places : List B} {e : B} → i < length l
+    → length l ≤ size → places ≡ pad filler size (map f (take i l)) → e ≡ f (get_or l i d)
+    → set places i e ≡ pad filler size (map f (take (i + 1) l))
+pad_next filler size f l i d more few front is =
+    let count : i ≡ length (map f (take i l)) = sym (length-map (take i l) f ∙ length-take-le i l (omega arith)) in
+    rw (is, front, add-one, take-suc l i d more, map-append) (pad_snoc filler size (map f (take i l)) (f (get_or l i d)) i count (omega arith))
 
 -- the first i of the first n are the first i of all
 pub take_fewer {ℓ} : {A : Type ℓ} (i n : ℕ) (l : List A) → i ≤ n → take i (take n l) ≡ take i l
@@ -71,28 +60,7 @@ take_fewer (suc i) zero l h = absurd (omega arith)
 take_fewer (suc i) (suc n) [] h = refl
 take_fewer (suc i) (suc n) (x ∷ l) h = ap (λ r. x ∷ r) (take_fewer i n l (omega arith))
 
--- the element at i of two lists, one after the other
-pub joined_first {ℓ} : {A : Type ℓ} (xs ys : List A) (i : ℕ) (d : A) → i < length xs → get_or (xs ++ ys) i d ≡ get_or xs i d
-joined_first [] ys i d h = absurd (omega arith)
-joined_first (x ∷ xs) ys zero d h = refl
-joined_first (x ∷ xs) ys (suc i) d h = joined_first xs ys i d (omega arith)
-
-pub joined_second {ℓ} : {A : Type ℓ} (xs ys : List A) (i : ℕ) (d : A) → length xs ≤ i → get_or (xs ++ ys) i d ≡ get_or ys (i - length xs) d
-joined_second xs ys i d h =
-    let e : i ≡ length xs + (i - length xs) = omega arith in
-    ap (λ (k : ℕ). get_or (xs ++ ys) k d) e ∙ get_or-append-add xs ys (i - length xs) d
-
 -- ---- places that hold 0
-
--- the test of an element's bits decides whether the element is 0
-pub zero_held : {z : ℤ} → SFits w16 z → of_z w16 z ≡ 0 → is_zero z ≡ true
-unfolding is_zero
-zero_held f e = ap is_zero (sym (to_z-of_z f) ∙ ap (to_z w16) e)
-
-pub not_zero_held : {z : ℤ} → SFits w16 z → (of_z w16 z ≡ 0 → ⊥) → is_zero z ≡ false
-unfolding is_zero
-not_zero_held {z = pos n} f ne = ne_eqb n 0 ne
-not_zero_held {z = negsuc n} f ne = ne_eqb (suc n) 0 (λ e. absurd (omega arith))
 
 zero_is : (z : ℤ) → is_zero z ≡ true → z ≡ pos 0
 unfolding is_zero
