@@ -2,10 +2,10 @@
 use mathlib.Core.Path.{◌≡◌, refl, sym, ap, ◌∙◌}
 use mathlib.Core.Bool.{Bool, true, false, not}
 use mathlib.Core.List.{List, [], ◌∷◌, ◌++◌, map, map-append, append-nil}
-use Prim.Native.Nat.{ℕ, suc, ◌+◌, ◌<◌, ◌≤◌}
+use Prim.Native.Nat.{ℕ, zero, suc, ◌+◌, ◌<◌, ◌≤◌}
 use native.Mathlib.Omega.{arith}
 use native.Mathlib.Numerals.{add-one}
-use lib.ListN.{length, take, drop, set, get_or, length-append, length-map}
+use lib.ListN.{length, take, drop, set, get_or, length-append, length-map, length-take}
 use lib.Seq.{take-suc, length-take-le, get_or-take, drop-length, drop-cons}
 use lib.IntN.{ℤ, pos}
 use Rattle.rules.specs.Choice.{choose}
@@ -64,13 +64,16 @@ unmarked_by test (w ∷ ws) = choose_not (test w) _ _ ∙ ap (λ (x : List ℤ).
 
 -- ---- the words that are not marked, moved together
 
--- the loop that moves the kept ones of the first all words together: after i words, n words stand at the front of the places a
-pub record Moved (ms : List Bool) (ws : List ℤ) (all i : ℕ) (a : List ℤ) (n : ℕ) : Type 0 where
-  pub so_far : i ≤ all
+-- the loop that moves the kept words together: after the first i words, n words stand at the front of the places a
+pub record Moved (ms : List Bool) (ws : List ℤ) (i : ℕ) (a : List ℤ) (n : ℕ) : Type 0 where
   pub holds : HoldsWords (without_marked (take i ms) (take i ws)) (record { words = a; n = n })
 
-module _ {ms : List Bool} {ws : List ℤ} {all i : ℕ} {a : List ℤ} {n : ℕ} (more : i < all) (am : all ≤ length ms) (aw : all ≤ length ws)
-    (few : length ws ≤ base_most) (moved : Moved ms ws all i a n) where
+pub moved_few : {ms : List Bool} {ws : List ℤ} {i : ℕ} {a : List ℤ} {n : ℕ} → Moved ms ws i a n → n ≤ i
+unfolding without_marked
+moved_few {ms} {ws} {i} moved = omega (arith, moved.holds.count, marked_shorter (map not (take i ms)) (take i ws), length-take i ws)
+
+module _ {ms : List Bool} {ws : List ℤ} {i : ℕ} {a : List ℤ} {n : ℕ} (more : i < length ws) (marks : length ws ≤ length ms)
+    (few : length ws ≤ base_most) (moved : Moved ms ws i a n) where
   abbrev h : HoldsWords (without_marked (take i ms) (take i ws)) (record { words = a; n = n })
   h = moved.holds
 
@@ -84,75 +87,64 @@ module _ {ms : List Bool} {ws : List ℤ} {all i : ℕ} {a : List ℤ} {n : ℕ}
       rw (add-one, take-suc ms i false (omega arith), take-suc ws i (pos 0) (omega arith), parts, e)
       (marked_snoc (map not (take i ms)) (take i ws) (not m) (get_or ws i (pos 0)) (lm ∙ sym lw))
 
-  pub moved_few : n ≤ i
-  unfolding without_marked
-  moved_few = omega (arith, h.count, marked_shorter (map not (take i ms)) (take i ws), length-take-le i ws (omega arith))
-
-  pub turn_marked : {a' : List ℤ} {n' : ℕ} → get_or ms i false ≡ true → a' ≡ a → n' ≡ n → Moved ms ws all (i + 1) a' n'
-  turn_marked t p q =
-      record { so_far = omega arith; holds = rw (next true t, append-nil) (record { words = p ∙ h.words; count = q ∙ h.count }) }
+  pub turn_marked : {a' : List ℤ} {n' : ℕ} → get_or ms i false ≡ true → a' ≡ a → n' ≡ n → Moved ms ws (i + 1) a' n'
+  turn_marked t p q = record { holds = rw (next true t, append-nil) (record { words = p ∙ h.words; count = q ∙ h.count }) }
 
   pub turn_kept : {a' : List ℤ} {n' : ℕ} → get_or ms i false ≡ false → a' ≡ set a n (get_or ws i (pos 0)) → n' ≡ n + 1
-      → Moved ms ws all (i + 1) a' n'
+      → Moved ms ws (i + 1) a' n'
   turn_kept t p q =
       let w = get_or ws i (pos 0) in
       let k = without_marked (take i ms) (take i ws) in
-      let stands = pad_snoc (pos 0) base_most k w n h.count (omega (arith, h.count, moved_few)) in
+      let stands = pad_snoc (pos 0) base_most k w n h.count (omega (arith, h.count, moved_few moved)) in
       let words = p ∙ ap (λ (x : List ℤ). set x n w) h.words ∙ stands in
-      record {
-        so_far = omega arith;
-        holds = rw (next false t) (record { words = words; count = omega (arith, h.count, length-append k (w ∷ [])) });
-      }
+      record { holds = rw (next false t) (record { words = words; count = omega (arith, h.count, length-append k (w ∷ [])) }) }
 
 -- ---- the marked words are taken away from sums
 
--- the loop that takes the marked ones of the first n words away: before word i the sums are s, and the marked words from i on remain
-abbrev remaining : List Bool → List ℤ → ℕ → ℕ → List ℤ
-remaining ms ws n i = marked (drop i (take n ms)) (drop i (take n ws))
+marked_none : (ms : List Bool) → marked ms [] ≡ []
+unfolding marked
+marked_none [] = refl
+marked_none (m ∷ ms) = refl
 
-pub record Taken (ms : List Bool) (ws : List ℤ) (n : ℕ) (given : Sums) (i : ℕ) (s : Sums) : Type 0 where
-  pub so_far : i ≤ n
-  pub less : less_words (sums_say s) (remaining ms ws n i) ≡ less_words (sums_say given) (marked (take n ms) (take n ws))
-  pub removable : Removable (remaining ms ws n i) s
+-- marks beyond the words mark no word
+pub marked_front : (n : ℕ) (ms : List Bool) (ws : List ℤ) → marked (take n ms) (take n ws) ≡ marked ms (take n ws)
+unfolding marked
+marked_front zero ms ws = sym (marked_none ms)
+marked_front (suc n) [] ws = refl
+marked_front (suc n) (m ∷ ms) [] = refl
+marked_front (suc n) (m ∷ ms) (w ∷ ws) = ap (λ (x : List ℤ). choose m (w ∷ x) x) (marked_front n ms ws)
 
-module _ (ms : List Bool) (ws : List ℤ) (n : ℕ) (given : Sums) (nm : n ≤ length ms) (nw : n ≤ length ws) where
-  pub none_taken : Removable (marked (take n ms) (take n ws)) given → Taken ms ws n given 0 given
-  none_taken h = record { so_far = omega arith; less = refl; removable = h }
+-- the loop that takes the marked words away: before word i the sums are s, and the marked words from i on remain
+abbrev remaining : List Bool → List ℤ → ℕ → List ℤ
+remaining ms ws i = marked (drop i ms) (drop i ws)
 
-  pub all_taken : {i : ℕ} {s : Sums} → i ≡ n → Taken ms ws n given i s
-      → sums_say s ≡ less_words (sums_say given) (marked (take n ms) (take n ws))
-  unfolding marked
+pub record Taken (ms : List Bool) (ws : List ℤ) (given : Sums) (i : ℕ) (s : Sums) : Type 0 where
+  pub less : less_words (sums_say s) (remaining ms ws i) ≡ less_words (sums_say given) (marked ms ws)
+  pub removable : Removable (remaining ms ws i) s
+
+module _ {ms : List Bool} {ws : List ℤ} {given : Sums} where
+  pub all_taken : {i : ℕ} {s : Sums} → i ≡ length ws → Taken ms ws given i s → sums_say s ≡ less_words (sums_say given) (marked ms ws)
   all_taken {i} {s} e k =
-      let end : i ≡ length (take n ms) = e ∙ sym (length-take-le n ms nm) in
-      let none : drop i (take n ms) ≡ [] = ap (λ (j : ℕ). drop j (take n ms)) end ∙ drop-length (take n ms) in
-      sym (less_none (sums_say s)) ∙ ap (λ (x : List Bool). less_words (sums_say s) (marked x (drop i (take n ws)))) (sym none) ∙ k.less
+      let none : drop i ws ≡ [] = ap (λ (j : ℕ). drop j ws) e ∙ drop-length ws in
+      sym (less_none (sums_say s)) ∙ ap (less_words (sums_say s)) (sym (ap (marked (drop i ms)) none ∙ marked_none (drop i ms))) ∙ k.less
 
-  module _ {i : ℕ} {s : Sums} (h : i < n) (k : Taken ms ws n given i s) where
+  module _ {i : ℕ} {s : Sums} (more : i < length ws) (marks : length ws ≤ length ms) (k : Taken ms ws given i s) where
     abbrev word : ℤ
     word = get_or ws i (pos 0)
 
     abbrev rest : List ℤ
-    rest = remaining ms ws n (i + 1)
+    rest = remaining ms ws (i + 1)
 
-    next_remains : (m : Bool) → get_or ms i false ≡ m → remaining ms ws n i ≡ choose m (word ∷ rest) rest
+    next_remains : (m : Bool) → get_or ms i false ≡ m → remaining ms ws i ≡ choose m (word ∷ rest) rest
     unfolding marked
     next_remains m e =
-        let im : i < length (take n ms) = omega (arith, length-take-le n ms nm) in
-        let iw : i < length (take n ws) = omega (arith, length-take-le n ws nw) in
-        rw (
-          drop-cons (take n ms) i false im,
-          drop-cons (take n ws) i (pos 0) iw,
-          get_or-take n ms i false h,
-          get_or-take n ws i (pos 0) h,
-          e,
-          add-one,
-        )
+        let there : i < length ms = omega arith in
+        rw (drop-cons ms i false, drop-cons ws i (pos 0), e, add-one)
 
-    pub turn_not_taken : get_or ms i false ≡ false → {s' : Sums} → s' ≡ s → Taken ms ws n given (i + 1) s'
+    pub turn_not_taken : get_or ms i false ≡ false → {s' : Sums} → s' ≡ s → Taken ms ws given (i + 1) s'
     turn_not_taken t e =
         let same = next_remains false t in
-        let less = ap (less_words (sums_say s)) (sym same) ∙ k.less in
-        rw e (record { so_far = omega arith; less = less; removable = rw same at k.removable })
+        rw e (record { less = ap (less_words (sums_say s)) (sym same) ∙ k.less; removable = rw same at k.removable })
 
     module _ (t : get_or ms i false ≡ true) where
       first_remains : Removable (word ∷ rest) s
@@ -161,10 +153,9 @@ module _ (ms : List Bool) (ws : List ℤ) (n : ℕ) (given : Sums) (nm : n ≤ l
       pub can_take : Removable (word ∷ []) s
       can_take = removable_first s word rest first_remains
 
-      pub turn_taken : {s' : Sums} → sums_say s' ≡ less_words (sums_say s) (word ∷ []) → Taken ms ws n given (i + 1) s'
+      pub turn_taken : {s' : Sums} → sums_say s' ≡ less_words (sums_say s) (word ∷ []) → Taken ms ws given (i + 1) s'
       turn_taken {s'} e =
           record {
-            so_far = omega arith;
             less = ap (λ (x : rules.Sums). less_words x rest) e ∙ sym (less_cons (sums_say s) word rest)
                 ∙ ap (less_words (sums_say s)) (sym (next_remains true t)) ∙ k.less;
             removable = removable_rest s word rest first_remains s' e;
