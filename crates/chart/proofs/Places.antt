@@ -6,7 +6,8 @@ use Prim.Native.Nat.{ℕ, zero, suc, ◌+◌, ◌-◌, ◌<◌, ◌≤◌}
 use native.Mathlib.Omega.{arith}
 use native.Mathlib.Numerals.{add-one}
 use lib.ListN.{length, take, drop, set, get_or, replicate, length-append, length-drop, length-map, length-set, take-append-drop}
-use lib.Seq.{take_at, take_all, set_at, take-suc, take-suc-set, drop-set-lt, length-take-le, drop-append_seam, get_or-append-add}
+use lib.Seq.{take_at, take-append_seam, set_at, take-suc, take-suc-set, drop-set-lt, length-take-le, drop-append_seam}
+use borrow.Rule.Slice.PartMut.{put_mid}
 use lib.IntN.{ℤ, pos, negsuc}
 use mir.Syntax.{w16}
 use mir.Val.{SFits, to_z, of_z}
@@ -44,6 +45,26 @@ module _ {ℓ} {A : Type ℓ} (filler : A) (size : ℕ) where
   pub pad-front : (l : List A) {front : List A} → front ≡ l → front ++ drop (length l) (replicate size filler) ≡ pad filler size l
   unfolding pad
   pad-front l is = rw (is, drop-replicate (length l) size filler)
+
+-- two lists are copied to the front, the second after the first
+pub pad-both : {A : Type 0} (filler : A) (size : ℕ) (xs ys : List A) {x y : List A} {at count : ℕ} → x ≡ xs → y ≡ ys → at ≡ length xs
+    → count ≡ length ys → put_mid at count (x ++ drop at (replicate size filler)) y ≡ pad filler size (xs ++ ys)
+unfolding pad
+pad-both filler size xs ys first second at count =
+    let free : size - length xs - length ys ≡ size - length (xs ++ ys) = omega (arith, length-append xs ys) in
+    let places = drop (length xs) (replicate size filler) in
+    rw (
+      first,
+      second,
+      at,
+      count,
+      take-append_seam xs places,
+      drop-append_seam xs places,
+      drop-replicate (length xs) size filler,
+      drop-replicate (length ys) (size - length xs) filler,
+      free,
+      append_assoc,
+    )
 
 -- a loop that puts f of each element of a list in its place: f of the first i elements is in place, and now that of the next one is
 pub pad_next : {A B : Type 0} (filler : B) (size : ℕ) (f : A → B) (l : List A) (i : ℕ) (d : A) {places : List B} {e : B} → i < length l

@@ -1,13 +1,19 @@
 -- Laws of the search for a renewal's tail: one try (`found`, `not_found`), and its end (`none_found`).
 use mathlib.Core.Path.{◌≡◌, sym, ◌∙◌}
 use mathlib.Core.Bool.{true, false, ◌&&◌}
-use mathlib.Core.List.{List}
-use Prim.Native.Nat.{ℕ, suc, ◌+◌, ◌<◌, ◌≤◌, min}
+use mathlib.Core.List.{List, ◌++◌}
+use Prim.Native.Nat.{ℕ, suc, ◌+◌, ◌-◌, ◌<◌, ◌≤◌, min}
 use native.Mathlib.Omega.{arith}
 use native.Mathlib.Numerals.{add-one}
-use lib.ListN.{length}
+use lib.ListN.{length, drop, take, replicate, length-append, length-drop}
+use lib.Seq.{drop-append-add, drop-length}
+use Rattle.std.proofs.lemmas.List.{drop-append-le, take_rest}
+use Rattle.rules.proofs.Integers.{by_order}
 use lib.Dec.{leb}
-use lib.IntN.{ℤ}
+use lib.IntN.{ℤ, pos}
+use borrow.Rule.Slice.PartMut.{put_mid}
+use Rattle.chart.specs.Pad.{pad}
+use Rattle.chart.proofs.Places.{pad-both}
 use borrow.Author.Tests.{leb-true, leb-false, le-leb, lt-leb}
 use Rattle.rules.specs.Sizes.{base_wanted, base_most}
 use Rattle.rules.specs.LastWords.{last_words}
@@ -20,6 +26,36 @@ use Rattle.chart.specs.Rejection.{IsRejection}
 use Rattle.chart.specs.Tail.{none_stands, tail_rejection, HasTail}
 use Rattle.chart.specs.declared.rejection.RejectionAnswer.{RejectionAnswer}
 use Rattle.chart.proofs.Rounds.{left_standing}
+
+-- the last k words of two lists, one after the other: the end of the first, and then the end of the second
+last_of_both_is : (base series : List ℤ) (k m : ℕ) → k ≤ length base + length series → m ≡ min k (length series)
+    → last_words k (base ++ series) ≡ drop (length base - (k - m)) base ++ drop (length series - m) series
+unfolding last_words
+last_of_both_is base series k m within least =
+    by_order k (length series)
+    (λ ge.
+    let first : length (base ++ series) - k ≡ length base - (k - m) = omega (arith, length-append base series) in
+    let all : length series - m ≡ 0 = omega arith in
+    rw (first, all, drop-append-le (length base - (k - m)) base series (omega arith)))
+    (λ less.
+    let first : length (base ++ series) - k ≡ length base + (length series - m) = omega (arith, length-append base series) in
+    let none : length base - (k - m) ≡ length base = omega arith in
+    rw (first, none, drop-append-add base series (length series - m), drop-length base))
+
+-- these two ends are copied to the front of places that hold 0
+pub ends_copied : (base series : List ℤ) (k : ℕ) {m : ℕ} {x y : List ℤ} → k ≤ length base + length series → m ≡ min k (length series)
+    → x ≡ take (length base - (length base - (k - m))) (drop (length base - (k - m)) base)
+    → y ≡ take (length series - (length series - m)) (drop (length series - m) series)
+    → put_mid (k - m) (k - (k - m)) (x ++ drop (k - m) (replicate base_most (pos 0))) y
+    ≡ pad (pos 0) base_most (last_words k (base ++ series))
+ends_copied base series k {m} within least first second =
+    let from_base = drop (length base - (k - m)) base in
+    let from_series = drop (length series - m) series in
+    let at : k - m ≡ length from_base = omega (arith, length-drop (length base - (k - m)) base) in
+    let count : k - (k - m) ≡ length from_series = omega (arith, length-drop (length series - m) series) in
+    let copied_first = first ∙ take_rest base (length base - (k - m)) in
+    let copied_second = second ∙ take_rest series (length series - m) in
+    rw (last_of_both_is base series k m within least) (pad-both (pos 0) base_most from_base from_series copied_first copied_second at count)
 
 -- the loop goes on while k is at most two numbers, and ends when it is above one of them
 pub has_tail : (base series : List ℤ) {k : ℕ} → (leb k (length base + length series) && leb k base_most) ≡ true → HasTail base series k
