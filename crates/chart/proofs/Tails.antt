@@ -9,6 +9,7 @@ use lib.ListN.{length, drop, take, replicate, length-append, length-drop}
 use lib.Seq.{drop-append-add, drop-length}
 use Rattle.std.proofs.lemmas.List.{drop-append-le, take_rest}
 use Rattle.rules.proofs.Integers.{by_order}
+use Rattle.rules.proofs.LastWords.{length-last_words}
 use lib.Dec.{leb}
 use lib.IntN.{ℤ, pos}
 use borrow.Rule.Slice.PartMut.{put_mid}
@@ -25,7 +26,7 @@ use Rattle.rules.proofs.Tail.{search_from, search_ends, search_goes_on, search_o
 use Rattle.chart.specs.Rejection.{IsRejection}
 use Rattle.chart.specs.Tail.{none_stands, tail_rejection, HasTail}
 use Rattle.chart.specs.declared.rejection.RejectionAnswer.{RejectionAnswer}
-use Rattle.chart.proofs.Rounds.{left_standing}
+use Rattle.chart.proofs.Rounds.{left_standing, rejected_front}
 
 -- the last k words of two lists, one after the other: the end of the first, and then the end of the second
 last_of_both_is : (base series : List ℤ) (k m : ℕ) → k ≤ length base + length series → m ≡ min k (length series)
@@ -57,31 +58,27 @@ ends_copied base series k {m} within least first second =
     let copied_second = second ∙ take_rest series (length series - m) in
     rw (last_of_both_is base series k m within least) (pad-both (pos 0) base_most from_base from_series copied_first copied_second at count)
 
--- the loop goes on while k is at most two numbers, and ends when it is above one of them
-pub has_tail : (base series : List ℤ) {k : ℕ} → (leb k (length base + length series) && leb k base_most) ≡ true → HasTail base series k
-has_tail base series {k} t =
-    let all = length base + length series in
-    let parts = both (leb k all) (leb k base_most) t in
-    record { within = leb-true k all parts.0; most = leb-true k base_most parts.1 }
-
-pub past_one : (k m n : ℕ) → (leb k m && leb k n) ≡ false → min m n < k
-past_one k m n f =
-    by_test (leb k m)
-    (λ t. let more = leb-false k n (rw t at f) in omega arith)
-    (λ t. let more = leb-false k m t in omega arith)
-
--- the search from k on gives the answer
-pub record Searching (kind : ℕ) (words : List ℤ) (k : ℕ) : Type 0 where
-  pub least : base_wanted ≤ k
-  pub most : k ≤ suc base_most
-  pub search : search_from kind words k ≡ shortest_tail kind words
-
 -- a try: a is what rejection leaves of the last k words, and the search from k on gives the answer
 pub record Tried (kind : ℕ) (words : List ℤ) (k : ℕ) (a : RejectionAnswer) : Type 0 where
   pub within : k ≤ length words
   pub most : k ≤ base_most
   pub is : IsRejection (rejection kind (last_words k words)) a
   pub search : search_from kind words k ≡ shortest_tail kind words
+
+-- such a try of the last k words, which stand at the front of places
+pub tried : (kind : ℕ) (base series : List ℤ) (k : ℕ) {places : List ℤ} {a : RejectionAnswer} → k ≤ length base + length series
+    → k ≤ base_most → places ≡ pad (pos 0) base_most (last_words k (base ++ series)) → IsRejection (rejection kind (take k places)) a
+    → search_from kind (base ++ series) k ≡ shortest_tail kind (base ++ series) → Tried kind (base ++ series) k a
+tried kind base series k {places} {a} within most front rejects left =
+    let words = base ++ series in
+    let fits : k ≤ length words = omega (arith, length-append base series) in
+    let counted = sym (length-last_words k words fits) in
+    record {
+      within = fits;
+      most = most;
+      is = rejected_front kind (last_words k words) places k a counted front rejects;
+      search = left;
+    }
 
 module _ {kind : ℕ} {words : List ℤ} {k : ℕ} {a : RejectionAnswer} (t : Tried kind words k a) where
   stand : a.left.n ≡ number_standing kind (last_words k words)
