@@ -6,7 +6,7 @@ use Prim.Native.Nat.{ℕ, zero, suc, ◌+◌, ◌<◌, ◌≤◌}
 use native.Mathlib.Omega.{arith}
 use native.Mathlib.Numerals.{add-one}
 use lib.ListN.{length, take, drop, set, get_or, length-append, length-map, length-take}
-use lib.Seq.{take-suc, length-take-le, get_or-take, drop-length, drop-cons}
+use lib.Seq.{take-suc, length-take-le, drop-length, drop-cons}
 use lib.IntN.{ℤ, pos}
 use Rattle.rules.specs.Choice.{choose}
 use Rattle.rules.specs.Sizes.{base_most}

@@ -1,8 +1,7 @@
 -- Laws of the search for a renewal's tail: one try (`found`, `not_found`), and its end (`none_found`).
 use mathlib.Core.Path.{◌≡◌, sym, ◌∙◌}
-use mathlib.Core.Bool.{true, false, ◌&&◌}
 use mathlib.Core.List.{List, ◌++◌}
-use Prim.Native.Nat.{ℕ, suc, ◌+◌, ◌-◌, ◌<◌, ◌≤◌, min}
+use Prim.Native.Nat.{ℕ, ◌+◌, ◌-◌, ◌<◌, ◌≤◌, min}
 use native.Mathlib.Omega.{arith}
 use native.Mathlib.Numerals.{add-one}
 use lib.ListN.{length, drop, take, replicate, length-append, length-drop}
@@ -10,21 +9,19 @@ use lib.Seq.{drop-append-add, drop-length}
 use Rattle.std.proofs.lemmas.List.{drop-append-le, take_rest}
 use Rattle.rules.proofs.Integers.{by_order}
 use Rattle.rules.proofs.LastWords.{length-last_words}
-use lib.Dec.{leb}
 use lib.IntN.{ℤ, pos}
 use borrow.Rule.Slice.PartMut.{put_mid}
 use Rattle.chart.specs.Pad.{pad}
 use Rattle.chart.proofs.Places.{pad-both}
-use borrow.Author.Tests.{leb-true, leb-false, le-leb, lt-leb}
+use borrow.Author.Tests.{le-leb, lt-leb}
 use Rattle.rules.specs.Sizes.{base_wanted, base_most}
 use Rattle.rules.specs.LastWords.{last_words}
 use Rattle.rules.specs.Rejection.{rejection}
 use Rattle.rules.specs.Standing.{number_standing, fifteen_stand}
 use Rattle.rules.specs.Tail.{shortest_tail}
-use Rattle.rules.proofs.Booleans.{both, by_test}
 use Rattle.rules.proofs.Tail.{search_from, search_ends, search_goes_on, search_over}
 use Rattle.chart.specs.Rejection.{IsRejection}
-use Rattle.chart.specs.Tail.{none_stands, tail_rejection, HasTail}
+use Rattle.chart.specs.Tail.{none_stands, tail_rejection}
 use Rattle.chart.specs.declared.rejection.RejectionAnswer.{RejectionAnswer}
 use Rattle.chart.proofs.Rounds.{left_standing, rejected_front}
 

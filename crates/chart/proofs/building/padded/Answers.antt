@@ -1,5 +1,4 @@
 -- `chart::building::padded` meets its contract.
-use Rattle.std.proofs.Common.{refl}
 use Rattle.chart.proofs.Places.{pad-front}
 use Rattle.chart.proofs.building.padded.Goals as goal
 

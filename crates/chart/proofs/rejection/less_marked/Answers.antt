@@ -1,17 +1,13 @@
 -- `chart::rejection::less_marked` meets its contract.
-use Rattle.std.proofs.Common.{rules, refl, ◌≡◌, ◌<◌, ◌≤◌, length, take, length-take, arith, ap, sym, ◌∙◌}
-use Rattle.rules.specs.Sizes.{base_most}
-use Rattle.rules.specs.Carried.{less_words}
-use Rattle.limits.specs.Sums.{sums_say}
-use Rattle.chart.specs.Rejection.{marked, without_marked}
-use Rattle.chart.proofs.Marks.{Taken, can_take, turn_taken, turn_not_taken, all_taken, marked_front}
+use Rattle.std.proofs.Common.{rules, refl, ◌≤◌, length, take, length-take, arith}
+use Rattle.chart.proofs.Marks.{can_take, turn_taken, turn_not_taken, all_taken, marked_front}
 use Rattle.chart.proofs.rejection.less_marked.Goals as goal
 
 pub loop-i-init : goal.loop-i-init
 loop-i-init c = record { less = refl; removable = rw (marked_front c.args.n c.args.marks c.args.words) at c.requires.removable }
 
 pub without_word-less-requires : goal.without_word-less-requires
-without_word-less-requires c = 
+without_word-less-requires c =
     let marks : length (take c.args.n c.args.words) ≤ length c.args.marks = omega (arith, length-take c.args.n c.args.words, c.requires.few) in
     search (rules, can_take c.loop-i-test.true marks c.loop-i.invariant)
 

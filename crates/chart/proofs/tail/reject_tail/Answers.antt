@@ -1,5 +1,5 @@
 -- `chart::tail::reject_tail` meets its contract.
-use Rattle.std.proofs.Common.{rules, refl, ◌≡◌, ◌++◌, ◌+◌, arith, length-append}
+use Rattle.std.proofs.Common.{refl, ◌++◌, ◌+◌, arith, length-append}
 use Rattle.rules.specs.Tail.{shortest_tail}
 use Rattle.chart.proofs.Tails.{tried, found, not_found, none_found}
 use Rattle.chart.proofs.tail.reject_tail.Goals as goal
