@@ -6,8 +6,10 @@ use mathlib.Core.List.{List, [], ◌∷◌}
 use Prim.Native.Nat.{ℕ, ◌+◌, ◌<◌, ◌≤◌}
 use native.Mathlib.Omega.{arith}
 use native.Mathlib.Numerals.{add-one}
-use lib.ListN.{length, drop, get_or, drop_of_length-le}
+use lib.ListN.{length, drop, get_or}
 use lib.Seq.{drop-cons}
+use Rattle.std.specs.Int.{int_min, int_max}
+use Rattle.std.proofs.lemmas.Int.{ints, clamps}
 use lib.IntN.{ℤ, pos}
 use lib.Signed.{le_z}
 use mir.Syntax.{w16}
@@ -19,16 +21,11 @@ use Rattle.rules.proofs.Choice.{choose_ind}
 use Rattle.rules.proofs.Integers.{at_most_self, at_most_then, at_most_or}
 use Rattle.rules.proofs.PassesBetween.{PassesBetween}
 use Rattle.extremes.specs.declared.Extremes.{Extremes}
-use Rattle.extremes.specs.Extremes.{lesser, greater, picked_from, picked_of, least_of, greatest_of, AreExtremes}
+use Rattle.extremes.specs.Extremes.{lesser, greater, picked_from, picked_of, least_of, greatest_of, AreExtremes, AreWithWord}
 
 -- ---- a loop that picks, word by word
 
 module _ (pick : ℤ → ℤ → ℤ) where
-  -- the word picked from two words, as the computer holds them
-  pub picked_held : {r a b : ℤ} → SFits w16 r → SFits w16 a → SFits w16 b → r ≡ pick (to_z w16 (of_z w16 a)) (to_z w16 (of_z w16 b))
-      → to_z w16 (of_z w16 r) ≡ pick a b
-  picked_held r a b e = to_z-of_z r ∙ e ∙ (λ i. pick (to_z-of_z a i) (to_z-of_z b i))
-
   -- without words
   pub picked_empty : (ws : List ℤ) → length ws ≡ 0 → pos 0 ≡ picked_of pick ws
   unfolding picked_of
@@ -41,23 +38,48 @@ module _ (pick : ℤ → ℤ → ℤ) where
   picked_first [] h e = absurd (omega arith)
   picked_first (w ∷ ws) h e = rw e
 
-  module _ (ws : List ℤ) (i : ℕ) (x : ℤ) {whole : ℤ} (inv : picked_from pick x (drop i ws) ≡ whole) where
-    -- one more word
-    pub picked_turn : {r w : ℤ} → i < length ws → w ≡ get_or ws i (pos 0) → r ≡ pick x w → picked_from pick r (drop (i + 1) ws) ≡ whole
-    unfolding picked_from
-    picked_turn h e f = rw (f, e) (sym (rw (add-one, drop-cons ws i (pos 0))) ∙ inv)
-
-    -- no word remains
-    pub picked_end : length ws ≤ i → x ≡ whole
-    unfolding picked_from
-    picked_end h = sym (rw (drop_of_length-le ws h)) ∙ inv
+  -- one more word
+  pub picked_next : (ws : List ℤ) (i : ℕ) (x : ℤ) → i < length ws
+      → picked_from pick (pick x (get_or ws i (pos 0))) (drop (i + 1) ws) ≡ picked_from pick x (drop i ws)
+  unfolding picked_from
+  picked_next ws i x h = sym (rw (add-one, drop-cons ws i (pos 0)))
 
 -- the loop's extremes and the words that remain give those of all words
-pub record SoFar (words : List ℤ) (i : ℕ) (e : Extremes) : Type 0 where
-  pub least : picked_from lesser e.least (drop i words) ≡ least_of words
-  pub greatest : picked_from greater e.greatest (drop i words) ≡ greatest_of words
+pub record SoFar (words : List ℤ) (rest : List ℤ) (e : Extremes) : Type 0 where
+  pub least : picked_from lesser e.least rest ≡ least_of words
+  pub greatest : picked_from greater e.greatest rest ≡ greatest_of words
+
+module _ {words : List ℤ} where
+  pub of_no_words : length words ≡ 0 → AreExtremes words (record { least = pos 0; greatest = pos 0 })
+  unfolding least_of greatest_of
+  of_no_words h = record { least = picked_empty lesser words h; greatest = picked_empty greater words h }
+
+  pub of_first : (rest : List ℤ) (e : Extremes) → 1 ≤ length words → rest ≡ drop 1 words
+      → e.least ≡ get_or words 0 (pos 0) → e.greatest ≡ get_or words 0 (pos 0) → SoFar words rest e
+  unfolding least_of greatest_of
+  of_first rest e h r least greatest =
+      rw r (record { least = picked_first lesser words h least; greatest = picked_first greater words h greatest })
+
+  pub with_next : (rest : List ℤ) (i : ℕ) {e r : Extremes} → SoFar words (drop i rest) e → i < length rest
+      → AreWithWord e (get_or rest i (pos 0)) r → SoFar words (drop (i + 1) rest) r
+  with_next rest i {e} so h next = record {
+    least = rw next.least (picked_next lesser rest i e.least h) ∙ so.least;
+    greatest = rw next.greatest (picked_next greater rest i e.greatest h) ∙ so.greatest;
+  }
+
+  pub with_last : {e : Extremes} → SoFar words [] e → AreExtremes words e
+  unfolding picked_from
+  with_last so = record { least = so.least; greatest = so.greatest }
 
 -- ---- the lesser and the greater of two
+
+pub lesser_is : (a b : ℤ) → int_min a b ≡ lesser a b
+unfolding lesser
+lesser_is a b = choose_ind (λ x. int_min a b ≡ x) (le_z a b) a b (λ t. omega (arith, ints, clamps)) (λ t. omega (arith, ints, clamps))
+
+pub greater_is : (a b : ℤ) → int_max a b ≡ greater a b
+unfolding greater
+greater_is a b = choose_ind (λ x. int_max a b ≡ x) (le_z a b) b a (λ t. omega (arith, ints, clamps)) (λ t. omega (arith, ints, clamps))
 
 lesser_first : (a b : ℤ) → le_z (lesser a b) a ≡ true
 unfolding lesser

@@ -4,8 +4,6 @@
 // pass exactly if these two pass. So many words need only two tests, and a loop that only compares.
 #![tactic(auto)]
 
-ghost use Rattle.std.specs.Prelude.{◌≡◌};
-ghost use Rattle.rules.specs.Choice.{choose};
 ghost use Rattle.extremes.specs.Extremes as specs;
 
 #[derive(Clone, Copy)]
@@ -18,21 +16,18 @@ pub struct Extremes {
 pub fn extremes_of(words: &[i16]) -> Extremes
     ensures { specs.AreExtremes words.now result }
 {
-    if words.len() == 0 {
+    let [first, rest @ ..] = words else {
         return Extremes {
             least: 0,
             greatest: 0,
         };
-    }
-    let first = words[0];
-    let mut e = Extremes {
-        least: first,
-        greatest: first,
     };
-    let mut i: usize = 1;
-    while i < words.len() {
-        e = with_word(e, words[i]);
-        i += 1;
+    let mut e = Extremes {
+        least: *first,
+        greatest: *first,
+    };
+    for w in rest {
+        e = with_word(e, *w);
     }
     e
 }
@@ -42,13 +37,7 @@ fn with_word(e: Extremes, w: i16) -> Extremes
     ensures { specs.AreWithWord e w result }
 {
     Extremes {
-        least: choose(e.least <= w, e.least, w),
-        greatest: choose(e.greatest <= w, w, e.greatest),
+        least: e.least.min(w),
+        greatest: e.greatest.max(w),
     }
-}
-
-fn choose(first: bool, a: i16, b: i16) -> i16
-    ensures { result ≡ choose first a b }
-{
-    if first { a } else { b }
 }
