@@ -7,9 +7,6 @@ use Prim.Native.Nat.{ℕ, zero, suc, ◌-◌, ◌≤◌}
 use native.Mathlib.Omega.{arith}
 use lib.ListN.{length}
 use lib.IntN.{ℤ, pos, negsuc, nat_abs, neg_ℤ, ◌+ℤ◌, ◌-ℤ◌, ◌*ℤ◌, +ℤ_idr}
-use mir.Syntax.{w16, w64}
-use mir.Val.{SFits}
-use mir.Facts.{to_z-of_z}
 use Rattle.rules.specs.Limits as rules
 use Rattle.rules.specs.Limits.{sum_of, sum_of_squares, sums_of, sum_by, square_of}
 use Rattle.rules.specs.Rejection.{without}
@@ -17,25 +14,12 @@ use Rattle.rules.specs.Carried.{only, less_words}
 use Rattle.rules.proofs.Integers.{square_magnitude, magnitude_plus, magnitude_negated}
 use Rattle.rules.proofs.Limits.{squares_are}
 use Rattle.rules.proofs.Carried.{less_natural, split_count, split_sum, sums_less}
-use Rattle.rules.proofs.Held.{small_fits, Held, held, cast_word_lem}
 use Rattle.limits.specs.declared.Sums.{Sums}
 use Rattle.limits.specs.Sums.{sums_say, AreSums, Removable}
 use Rattle.limits.proofs.Spread.{sum_small}
 use Rattle.limits.proofs.Summing.{are_sums, count_is}
-use Rattle.limits.proofs.Deviation.{cast_word, held_sum}
 
 -- ---- one word
-
-module _ (s : Sums) (w : ℤ) (fit : SFits w16 w) (r : Removable (w ∷ []) s) where
-  pub sum-without : Held (held_sum s -ℤ cast_word w) (s.t -ℤ w)
-  unfolding sum_by
-  sum-without =
-      let t : SFits w64 s.t = small_fits (omega (arith, r.sum)) in
-      held (rw (to_z-of_z t, cast_word_lem fit)) (small_fits (omega (arith, r.sum, magnitude_plus s.t (neg_ℤ w), magnitude_negated w)))
-
-  pub square_held : square_of w ≤ s.q
-  unfolding sum_by
-  square_held = omega (arith, r.squares)
 
 -- the sums less a word, from the three differences
 pub less_one : (s : Sums) (w : ℤ) (t : ℤ) (x : ℕ) → t ≡ s.t -ℤ w → x ≡ square_of w → x ≤ s.q

@@ -5,7 +5,7 @@ use Prim.Native.Nat.{ℕ, ◌+◌, ◌*◌, ◌<◌, ◌≤◌, ◌^◌}
 use native.Mathlib.Omega.{arith}
 use native.Mathlib.Numerals.{add-one}
 use lib.ListN.{length, take, get_or}
-use lib.Seq.{take-suc}
+use lib.Seq.{take-suc, length-take-le}
 use lib.IntN.{ℤ, pos, nat_abs, ◌+ℤ◌, ◌-ℤ◌, ◌*ℤ◌}
 use mir.Syntax.{w16}
 use mir.Val.{SFits, to_z, of_z}
@@ -17,7 +17,7 @@ use Rattle.rules.proofs.Integers.{of_pos, minus, agree, square_magnitude}
 use Rattle.rules.proofs.Limits.{v_natural, sums_snoc}
 use Rattle.rules.proofs.Held.{word_square_small}
 use Rattle.limits.specs.declared.Sums.{Sums}
-use Rattle.limits.specs.Sums.{sums_say, AreSums}
+use Rattle.limits.specs.Sums.{sums_say, AreSums, CanAdd}
 
 pub are_sums : (s : Sums) (ws : List ℤ) → sums_say s ≡ sums_of ws → s.n ≤ base_most → s.q ≤ 2 ^ 30 * base_most → AreSums ws s
 unfolding v_of
@@ -43,12 +43,18 @@ pub count_is : (ws : List ℤ) (s : Sums) → AreSums ws s → s.n ≡ length ws
 unfolding sums_of
 count_is ws s h = ap (λ (x : rules.Sums). x.n) h.same
 
+-- one more word can be added to the sums of the words before it
+pub can_add : (ws : List ℤ) (i : ℕ) (s : Sums) → length ws ≤ base_most → i < length ws → Summed (take i ws) s → CanAdd s
+can_add ws i s few h a =
+    record { room = omega (arith, length-take-le i ws (omega arith), count_is (take i ws) s a.are); bounded = a.are.bounded }
+
 -- the word at i, as the computer holds it, added to the sums of the words before it
-pub of_one_more : (s r : Sums) (ws : List ℤ) (i : ℕ) → let w = get_or ws i (pos 0) in
-    i < length ws → SFits w16 w → Summed (take i ws) s → s.n < base_most
+pub of_one_more : (ws : List ℤ) (i : ℕ) (s r : Sums) → let w = get_or ws i (pos 0) in
+    length ws ≤ base_most → i < length ws → SFits w16 w → Summed (take i ws) s
     → sums_say r ≡ with_word (sums_say s) (to_z w16 (of_z w16 w)) → Summed (take (i + 1) ws) r
-of_one_more s r ws i h fit a few e =
+of_one_more ws i s r few h fit a e =
     let w = get_or ws i (pos 0) in
+    let add = can_add ws i s few h a in
     let f : sums_say r ≡ with_word (sums_say s) w = rw (to_z-of_z fit) at e in
     let n : r.n ≡ s.n + 1 = ap (λ (x : rules.Sums). x.n) f in
     let q : pos r.q ≡ pos (s.q + nat_abs w * nat_abs w) =
@@ -56,4 +62,4 @@ of_one_more s r ws i h fit a few e =
     let next : take i ws ++ (w ∷ []) ≡ take (i + 1) ws = sym (rw (add-one, take-suc ws i (pos 0))) in
     let all = f ∙ ap (λ (x : rules.Sums). with_word x w) a.are.same ∙ sym (sums_snoc (take i ws) w) ∙ ap sums_of next in
     let squares : r.q ≤ 2 ^ 30 * r.n = omega (arith, a.squares, ap nat_abs q, word_square_small fit) in
-    record { are = are_sums r (take (i + 1) ws) all (omega arith) (omega arith); squares = squares }
+    record { are = are_sums r (take (i + 1) ws) all (omega (arith, add.room)) (omega (arith, add.room)); squares = squares }

@@ -58,20 +58,20 @@ pub struct Limits {
     pub sums: Sums,
 }
 
+#[tactic(auto, using(crate::proofs::Summing::of_none, crate::proofs::Summing::can_add))]
 pub fn sums_of(words: &[i16]) -> Sums
     requires { length words.now ≤ base_most }
     ensures { AreSums words.now result }
 {
     let mut s = Sums { n: 0, t: 0, q: 0 };
-    let mut i: usize = 0;
-    while i < words.len() {
-        s = with_word(s, words[i]);
-        i += 1;
+    for w in words {
+        s = with_word(s, *w);
     }
     s
 }
 
 // The limits that at most 32 words give for a chart kind.
+#[tactic(auto, unfolding(rules::specs::Limits::limits_of))]
 pub fn limits_of(kind: u16, words: &[i16]) -> Limits
     requires { length words.now ≤ base_most }
     ensures { AreLimits kind words.now result }
@@ -80,6 +80,7 @@ pub fn limits_of(kind: u16, words: &[i16]) -> Limits
     Limits { kind, sums }
 }
 
+#[tactic(auto, unfolding(rules::specs::Limits::beyond_control, rules::specs::Limits::beyond))]
 pub fn beyond_control(l: Limits, w: i16) -> bool
     requires { Bounded l.sums }
     ensures { result ≡ rules.beyond_control (limits_say l) w }
@@ -89,6 +90,7 @@ pub fn beyond_control(l: Limits, w: i16) -> bool
 }
 
 // Whether a word is beyond the upper warning limit, and whether it is beyond the lower one.
+#[tactic(auto, unfolding(rules::specs::Limits::beyond_upper_warning, rules::specs::Limits::beyond_lower_warning))]
 pub fn beyond_warning(l: Limits, w: i16) -> BeyondLimits
     requires { Bounded l.sums }
     ensures { IsBeyondWarning (limits_say l) w result }
@@ -97,6 +99,7 @@ pub fn beyond_warning(l: Limits, w: i16) -> BeyondLimits
 }
 
 // |w − mean| < S
+#[tactic(auto, unfolding(rules::specs::Limits::near_mean))]
 pub fn near_mean(l: Limits, w: i16) -> bool
     requires { Bounded l.sums }
     ensures { result ≡ rules.near_mean (sums_say l.sums) w }
@@ -106,6 +109,7 @@ pub fn near_mean(l: Limits, w: i16) -> bool
     within(1, s, d)
 }
 
+#[tactic(auto, unfolding(rules::specs::Limits::above_mean, rules::specs::Limits::below_mean))]
 pub fn side_of_mean(l: Limits, w: i16) -> Side
     requires { Bounded l.sums }
     ensures { IsSide (sums_say l.sums) w result }
@@ -125,13 +129,14 @@ pub fn beyond(m: u8, l: Limits, w: i16) -> BeyondLimits
 {
     let s = l.sums;
     let d = scaled_deviation(s, w);
-    let far = exceeds(m as u16, s, d);
+    let far = exceeds(m, s, d);
     BeyondLimits {
         upper: (0 < d) & far,
         lower: has_lower(l.kind) & ((d < 0) & far),
     }
 }
 
+#[tactic(auto, unfolding(rules::specs::Kind::has_lower))]
 pub fn has_lower(kind: u16) -> bool
     ensures { result ≡ has_lower kind }
 {
@@ -139,7 +144,8 @@ pub fn has_lower(kind: u16) -> bool
 }
 
 // Whether a deviation of d / n, up or down, is more than m·S.
-fn exceeds(m: u16, s: Sums, d: i64) -> bool
+#[tactic(auto, unfolding(rules::specs::Limits::exceeds))]
+fn exceeds(m: u8, s: Sums, d: i64) -> bool
     requires { Comparable m s d }
     ensures { result ≡ rules.exceeds m (sums_say s) d }
 {
@@ -148,7 +154,8 @@ fn exceeds(m: u16, s: Sums, d: i64) -> bool
 }
 
 // Whether a deviation of d / n, up or down, is less than m·S.
-fn within(m: u16, s: Sums, d: i64) -> bool
+#[tactic(auto, unfolding(rules::specs::Limits::within))]
+fn within(m: u8, s: Sums, d: i64) -> bool
     requires { Comparable m s d }
     ensures { result ≡ rules.within m (sums_say s) d }
 {
@@ -157,32 +164,26 @@ fn within(m: u16, s: Sums, d: i64) -> bool
 }
 
 // d²·(n − 1) and m²·n·V, which are compared in place of d / n and m·S.
-fn squares_of(m: u16, s: Sums, d: i64) -> Squares
+#[tactic(auto, using(crate::proofs::Comparison::nv_fits))]
+fn squares_of(m: u8, s: Sums, d: i64) -> Squares
     requires { Comparable m s d }
     ensures { AreSquares m (sums_say s) d result }
 {
-    let n = s.n;
-    // Without words n − 1 would be negative, and both sides are 0.
-    if n == 0 {
-        return Squares {
-            deviation: 0,
-            limit: 0,
-        };
-    }
-    let multiple = m as u64;
-    let a = magnitude(d);
-    let v = v_of(s);
-    let deviation = a * a * (n - 1);
-    let limit = multiple * multiple * (n * v);
+    let multiple = u64::from(m);
+    let a = d.unsigned_abs();
+    // Without words n − 1 counts as 0, and both sides are 0.
+    let deviation = a * a * s.n.saturating_sub(1);
+    let limit = multiple * multiple * (s.n * v_of(s));
     Squares { deviation, limit }
 }
 
 // V = n·Q − T²
+#[tactic(auto, using(crate::proofs::Spread::v_is))]
 pub fn v_of(s: Sums) -> u64
     requires { Bounded s }
     ensures { pos result ≡ rules.v_of (sums_say s) }
 {
-    let a = magnitude(s.t);
+    let a = s.t.unsigned_abs();
     s.n * s.q - a * a
 }
 
@@ -191,7 +192,7 @@ fn scaled_deviation(s: Sums, w: i16) -> i64
     requires { Bounded s }
     ensures { result ≡ rules.scaled_deviation (sums_say s) w }
 {
-    (s.n as i64) * (w as i64) - s.t
+    (s.n as i64) * i64::from(w) - s.t
 }
 
 // The sums after one more word.
@@ -201,18 +202,19 @@ fn with_word(s: Sums, w: i16) -> Sums
 {
     Sums {
         n: s.n + 1,
-        t: s.t + (w as i64),
+        t: s.t + i64::from(w),
         q: s.q + square(w),
     }
 }
 
 // The sums less one word.
+#[tactic(auto, unfolding(rules::specs::Limits::sum_by))]
 pub fn without_word(s: Sums, w: i16) -> Sums
     requires { Removable (w ∷ []) s }
     ensures { sums_say result ≡ less_words (sums_say s) (w ∷ []) }
 {
     let n = s.n - 1;
-    let t = s.t - (w as i64);
+    let t = s.t - i64::from(w);
     let q = s.q - square(w);
     Sums { n, t, q }
 }
@@ -220,17 +222,13 @@ pub fn without_word(s: Sums, w: i16) -> Sums
 fn square(w: i16) -> u64
     ensures { result ≡ rules.square_of w }
 {
-    let a = magnitude(w as i64);
+    let a = u64::from(w.unsigned_abs());
     a * a
 }
 
-// The absolute value. For a negative z, `!z` is |z| − 1, which always fits.
+// The absolute value.
 pub fn magnitude(z: i64) -> u64
     ensures { result ≡ nat_abs z }
 {
-    if z < 0 {
-        let y = !z;
-        return (y as u64) + 1;
-    }
-    z as u64
+    z.unsigned_abs()
 }

@@ -1,20 +1,8 @@
 -- `limits::near_mean` meets its contract.
-use mathlib.Core.Path.{ap, ◌∙◌}
-use native.Mathlib.Omega.{arith}
-use Rattle.rules.specs.Limits.{within, near_mean}
-use Rattle.limits.specs.Sums.{sums_say}
-use Rattle.limits.proofs.Comparison.{HeldDeviation, held_deviation}
+use Rattle.std.proofs.Common.{arith}
+use Rattle.std.proofs.lemmas.Int.{to_z-of_z}
+use Rattle.limits.proofs.Comparison.{comparable}
 use Rattle.limits.proofs.near_mean.Goals as goal
 
 pub within-requires : goal.within-requires
-within-requires c =
-    let deviation : let a = c.args in HeldDeviation 1 a.l.sums a.w c.scaled_deviation-d.result =
-    let d = c.scaled_deviation-d in held_deviation 1 c.args.l.sums c.args.w d.result (omega arith) c.requires c.ranges.w d.ensures in
-    (deviation).comparable
-
-pub returns : goal.returns
-unfolding near_mean
-returns c =
-    let deviation : let a = c.args in HeldDeviation 1 a.l.sums a.w c.scaled_deviation-d.result =
-    let d = c.scaled_deviation-d in held_deviation 1 c.args.l.sums c.args.w d.result (omega arith) c.requires c.ranges.w d.ensures in
-    c.within.ensures ∙ ap (within 1 (sums_say c.args.l.sums)) (deviation).is
+within-requires c = comparable _ _ c.args.w _ (omega arith) c.requires c.ranges.w (grind (arith, to_z-of_z))
