@@ -9,7 +9,7 @@ use mir.Val.{SFits, to_z, of_z}
 use mir.Facts.{to_z-of_z, to_z_pos}
 use Rattle.rules.specs.Limits.{scaled_deviation}
 use Rattle.rules.proofs.Integers.{magnitude_plus, magnitude_negated, magnitude_times}
-use Rattle.rules.proofs.Held.{small_fits, word_small}
+use Rattle.rules.proofs.Held.{small_fits, Held, held, word_small}
 use Rattle.limits.specs.declared.Sums.{Sums}
 use Rattle.limits.specs.Sums.{sums_say, Bounded}
 use Rattle.limits.proofs.Spread.{sum_small, sum_fits}
@@ -24,11 +24,10 @@ module _ (s : Sums) (b : Bounded s) (w : ℤ) (h : SFits w16 w) where
       omega (arith, product_small, sum_small s b, magnitude_plus (pos s.n *ℤ w) (neg_ℤ s.t), magnitude_negated s.t)
 
   pub deviation : (x : ℤ) → x ≡ w
-      → to_z w64 (of_z w64 (to_z w64 (of_z w64 (to_z w64 s.n *ℤ to_z w64 (of_z w64 x))) -ℤ to_z w64 (of_z w64 s.t)))
-      ≡ scaled_deviation (sums_say s) w
+      → Held (to_z w64 (of_z w64 (to_z w64 s.n *ℤ to_z w64 (of_z w64 x))) -ℤ to_z w64 (of_z w64 s.t)) (scaled_deviation (sums_say s) w)
   unfolding scaled_deviation
   deviation x e =
       let word : SFits w64 w = small_fits (omega (arith, word_small h)) in
       let product : SFits w64 (pos s.n *ℤ w) = small_fits (omega (arith, product_small)) in
       let whole : SFits w64 (pos s.n *ℤ w -ℤ s.t) = small_fits (omega (arith, deviation_small)) in
-      rw (e, to_z-of_z word, to_z_pos w64 {n = s.n} (omega (arith, b.few)), to_z-of_z product, to_z-of_z (sum_fits s b)) (to_z-of_z whole)
+      held (rw (e, to_z-of_z word, to_z_pos w64 {n = s.n} (omega (arith, b.few)), to_z-of_z product, to_z-of_z (sum_fits s b))) whole
