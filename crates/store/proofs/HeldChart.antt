@@ -11,31 +11,35 @@ use Rattle.rules.specs.ReadForm.{is_form, held_in, reading}
 use Rattle.rules.specs.Lists.{bytes_start}
 use Rattle.rules.proofs.Outcome.{given_not_refused}
 use Rattle.rules.proofs.Choice.{require_ind}
+use Rattle.std.specs.Prelude.{Ok, Err}
+use Rattle.refusals.specs.Refusal.{refusal_number, result_says}
+use Rattle.refusals.specs.declared.Refusal.{Refusal}
 use Rattle.chart.specs.declared.Chart.{Chart}
-use Rattle.chart.specs.Chart.{chart_of, zero_chart}
-use Rattle.store.specs.declared.ReadAnswer.TheVariants as read
+use Rattle.chart.specs.declared.Called.{Called}
+use Rattle.chart.specs.Chart.{state_of, chart_of}
 use Rattle.store.specs.Store.{read_says, chart_after_reading, IsRead}
-use Rattle.store.specs.HeldChart.{chart_of_start, number_of_start, IsHeld}
+use Rattle.store.specs.HeldChart.{chart_of_start, IsHeld}
 
-module _ {start : Outcome State} {c : Chart} where
-  pub held_begun : {s : State} → start ≡ given s → c ≡ chart_of s → IsHeld start (record { chart = c; number = 0 })
-  unfolding chart_of_start number_of_start
-  held_begun e same = rw e (record { chart = same; number = refl })
+-- building or reading gave the chart c, or a refusal with the number n
+module _ {start : Outcome State} where
+  pub held_begun : {s : State} {c : Chart} → start ≡ given s → c ≡ chart_of s → IsHeld start (Ok c)
+  unfolding chart_of_start result_says
+  held_begun e same = rw e (record { says = ap given same })
 
-  pub held_declined : {n : ℕ} → start ≡ refused n → c ≡ zero_chart → IsHeld start (record { chart = c; number = n })
-  unfolding chart_of_start number_of_start
-  held_declined e zeros = rw e (record { chart = zeros; number = refl })
+  pub held_declined : (r : Refusal) → start ≡ refused (refusal_number r) → IsHeld start (Err r)
+  unfolding chart_of_start result_says
+  held_declined r e = rw e (record { says = refl })
 
-module _ (bytes : List ℕ) {c : Chart} where
-  pub held_read : IsRead (reading bytes) (record { chart = c; answer = read.Done })
-      → IsHeld (bytes_start bytes) (record { chart = c; number = 0 })
+module _ (bytes : List ℕ) (r : Called (Unit {0})) (is : IsRead (reading bytes) r) where
+  pub held_read : {u : Unit {0}} → r.answer ≡ Ok u → IsHeld (bytes_start bytes) (Ok r.chart)
   unfolding read_says chart_after_reading
-  held_read r = held_begun (sym r.says) (r.chart ∙ ap chart_after_reading (sym r.says))
+  held_read e =
+      let read : reading bytes ≡ given (state_of r.chart) = sym is.says ∙ ap (read_says r.chart) e in
+      held_begun read (is.chart ∙ ap chart_after_reading read)
 
-  pub held_not_read : {n : ℕ} → IsRead (reading bytes) (record { chart = c; answer = read.Refused n })
-      → IsHeld (bytes_start bytes) (record { chart = c; number = n })
-  unfolding read_says chart_after_reading
-  held_not_read r = held_declined (sym r.says) (r.chart ∙ ap chart_after_reading (sym r.says))
+  pub held_not_read : (refusal : Refusal) → r.answer ≡ Err refusal → IsHeld (bytes_start bytes) (Err refusal)
+  unfolding read_says
+  held_not_read refusal e = held_declined refusal (sym is.says ∙ ap (read_says r.chart) e)
 
 pub reading_number : (bytes : List ℕ) (n : ℕ) → bytes_start bytes ≡ refused n → 1 ≤ n
 unfolding reading

@@ -2,7 +2,7 @@
 -- contract in each of its cases (`read_no_form`, `read_unsound`, `read_done`).
 use mathlib.Core.Path.{◌≡◌, refl, sym, ap, ◌∙◌}
 use mathlib.Core.Bool.{true, false}
-use Rattle.std.specs.Prelude.{Some, None}
+use Rattle.std.specs.Prelude.{Some, None, Ok}
 use mathlib.Core.List.{List, ◌++◌, map}
 use Prim.Native.Nat.{ℕ, ◌≤◌}
 use native.Mathlib.Omega.{arith}
@@ -25,8 +25,7 @@ use Rattle.chart.proofs.Places.{drop-replicate}
 use Rattle.chart.proofs.State.{state_of_chart}
 use Rattle.store.specs.declared.records.Place.{Place}
 use Rattle.store.specs.declared.Layout.{Layout}
-use Rattle.store.specs.declared.ReadAnswer.TheVariants as read
-use Rattle.store.specs.declared.ReadChart.{ReadChart}
+use Rattle.chart.specs.declared.Called.{Called}
 use Rattle.store.specs.Records.{place_at, head_place, base_place, series_place, layout_of, numbers_at, words_at, LiesWithin, filled_from}
 use Rattle.store.specs.Store.{read_says, chart_after_reading, IsRead}
 use Rattle.store.proofs.RecordsIn.{some_chosen, none_chosen, record_facts, after_place, length-words_at}
@@ -167,7 +166,7 @@ module _ (bytes : List ℕ) (at : Layout) (e : layout_of bytes ≡ Some at) wher
       unfolding reading
       read_unsound h = rw (laid_out.is_form_lem, ap sound (sym same_state) ∙ h)
 
-      pub read_done : sound (state_of chart_read) ≡ true → IsRead (reading bytes) (record { chart = chart_read; answer = read.Done })
+      pub read_done : sound (state_of chart_read) ≡ true → IsRead (reading bytes) (record { chart = chart_read; answer = Ok tt })
       unfolding read_says chart_after_reading reading
       read_done h =
           let done : reading bytes ≡ given (held_in bytes) = rw (laid_out.is_form_lem, ap sound (sym same_state) ∙ h) in
@@ -181,5 +180,5 @@ unfolding layout_of reading
 read_no_form bytes e = rw (none_chosen _ _ e)
 
 -- an answer for bytes that are refused with this number
-pub read_declined : (bytes : List ℕ) (n : ℕ) (r : ReadChart) → reading bytes ≡ refused n → IsRead (refused n) r → IsRead (reading bytes) r
+pub read_declined : (bytes : List ℕ) (n : ℕ) (r : Called (Unit {0})) → reading bytes ≡ refused n → IsRead (refused n) r → IsRead (reading bytes) r
 read_declined bytes n r e is = rw e is

@@ -26,10 +26,12 @@ use Rattle.chart.specs.Soundness.{sound_chart}
 use Rattle.chart.proofs.State.{Given, state_of_chart, chart_of-state}
 use Rattle.chart.proofs.State as state
 use Rattle.chart.proofs.Runs.{Runs, sound_chart_of, sound_runs}
-use Rattle.store.specs.Store.{write_says, answer_to_write, buffer_after_write, Writes, read_says, chart_after_reading, IsRead}
+use Rattle.store.specs.Store.{answer_to_write, buffer_after_write, Writes, read_says, chart_after_reading, IsRead}
 use Rattle.store.specs.Store.{answer_to_return, chart_returned, Returns}
-use Rattle.store.specs.declared.ReadChart.{ReadChart}
-use Rattle.store.specs.declared.WriteAnswer.TheVariants.{Done, Refused}
+use Rattle.std.specs.Prelude.{Ok, Err}
+use Rattle.refusals.specs.Refusal.{refusal_number, result_says}
+use Rattle.refusals.specs.declared.Refusal.{Refusal}
+use Rattle.chart.specs.declared.Called.{Called}
 
 -- ---- writing that was not refused
 
@@ -45,9 +47,9 @@ wrote_by true true size n e = record { sound = refl; fits = refl; count = cc }
 wrote_by true false size n e = zero_not_one cc
 wrote_by false room size n e = zero_not_one cc
 
-module _ (c : Chart) (before after : List ℕ) (n : ℕ) (w : Writes c before after (Done n)) where
+module _ (c : Chart) (before after : List ℕ) (n : ℕ) (w : Writes c before after (Ok n)) where
   pub written_facts : Wrote (sound_chart c) (form_fits (state_of c) before) (length (stored_form (state_of c))) n
-  unfolding write_says answer_to_write writing
+  unfolding result_says answer_to_write writing
   written_facts = wrote_by (sound_chart c) (form_fits (state_of c) before) (length (stored_form (state_of c))) n w.says
 
   pub written_sound : sound_chart c ≡ true
@@ -73,7 +75,7 @@ module _ (c : Chart) (before after : List ℕ) (n : ℕ) (w : Writes c before af
 
   -- reading them gives the chart again
   pub returned : length c.base ≡ base_most → length c.series ≡ series_most
-      → (r : ReadChart) → IsRead (reading (take n after)) r → Returns c before after r
+      → (r : Called (Unit {0})) → IsRead (reading (take n after)) r → Returns c before after r
   unfolding chart_returned answer_to_return chart_after_reading
   returned base series r is =
       let facts = written_facts in
@@ -95,18 +97,18 @@ refused_by true false size n s e = (ap refused (same_refused e), refl)
 refused_by false room size n s e = (ap refused (same_refused e), refl)
 
 -- the answer is the number of the refusal, with the chart of zeros
-pub not_written_lem : (c : Chart) (before after : List ℕ) (n : ℕ) → Writes c before after (Refused n)
-    → (r : ReadChart) → IsRead (refused n) r → Returns c before after r
-unfolding write_says answer_to_write writing chart_returned answer_to_return chart_after_reading
+pub not_written_lem : (c : Chart) (before after : List ℕ) (n : Refusal) → Writes c before after (Err n)
+    → (r : Called (Unit {0})) → IsRead (refused (refusal_number n)) r → Returns c before after r
+unfolding result_says answer_to_write writing chart_returned answer_to_return chart_after_reading
 not_written_lem c before after n w r is =
     let size = length (stored_form (state_of c)) in
-    let (said, none_written) = refused_by (sound_chart c) (form_fits (state_of c) before) size n (state_of c) w.says in
+    let (said, none_written) = refused_by (sound_chart c) (form_fits (state_of c) before) size (refusal_number n) (state_of c) w.says in
     record { chart = rw none_written is.chart; says = is.says ∙ said; buffer = w.buffer }
 
 -- ---- writing and reading back, for charts. `Given` says that a chart is sound and that its arrays are as long as its type says
 
 -- reading a sound chart's stored form gives that chart, and is not refused
-pub read_written : (c : Chart) → Given c → (r : ReadChart) → IsRead (reading (stored_form (state_of c))) r
+pub read_written : (c : Chart) → Given c → (r : Called (Unit {0})) → IsRead (reading (stored_form (state_of c))) r
     → (r.chart ≡ c) × (read_says r.chart r.answer ≡ given (state_of c))
 unfolding chart_after_reading
 read_written c g r is =
@@ -115,7 +117,7 @@ read_written c g r is =
 
 -- a chart that was read is sound, so writing it is not refused with 14. If the buffer has room, writing gives the bytes that were read
 module _ (bytes : List ℕ) (are : AreBytes bytes) (s : State) (e : reading bytes ≡ given s)
-    (r : ReadChart) (is : IsRead (reading bytes) r) where
+    (r : Called (Unit {0})) (is : IsRead (reading bytes) r) where
   chart_is : r.chart ≡ chart_of s
   unfolding chart_after_reading
   chart_is = is.chart ∙ ap chart_after_reading e
@@ -123,7 +125,7 @@ module _ (bytes : List ℕ) (are : AreBytes bytes) (s : State) (e : reading byte
   pub read_is_sound : sound_chart r.chart ≡ true
   read_is_sound = ap sound_chart chart_is ∙ sound_chart_of s (read_sound bytes s e)
 
-  pub written_again : (before after : List ℕ) (n : ℕ) → Writes r.chart before after (Done n) → take n after ≡ bytes
+  pub written_again : (before after : List ℕ) (n : ℕ) → Writes r.chart before after (Ok n) → take n after ≡ bytes
   written_again before after n w =
       written_form r.chart before after n w
       ∙ (ap (λ (c : Chart). stored_form (state_of c)) chart_is ∙ (ap stored_form (state_of_chart s) ∙ stored_read bytes s are e))

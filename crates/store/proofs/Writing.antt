@@ -26,8 +26,10 @@ use Rattle.chart.specs.declared.Chart.{Chart}
 use Rattle.chart.specs.Chart.{state_of}
 use Rattle.chart.specs.Soundness.{sound_chart}
 use Rattle.chart.proofs.State.{Given, base_count_lem, series_count_lem}
-use Rattle.store.specs.Store.{form_size, form_most, write_says, answer_to_write, buffer_after_write, Writes}
-use Rattle.store.specs.declared.WriteAnswer.TheVariants.{Done, Refused}
+use Rattle.store.specs.Store.{form_size, form_most, answer_to_write, buffer_after_write, Writes}
+use Rattle.std.specs.Prelude.{Ok, Err}
+use Rattle.refusals.specs.Refusal.{refusal_number, result_says}
+use Rattle.refusals.specs.declared.Refusal.TheVariants.{NotSound, NoRoom}
 
 -- the words that stand for the first record's numbers give these numbers back
 pub head_number : {r : ℤ} {k : ℕ} → SFits w16 r → k < 65536 → r ≡ word_of k → number_of (to_z w16 (of_z w16 r)) ≡ k
@@ -55,13 +57,13 @@ module _ (c : Chart) (g : Given c) where
   -- ---- writing a sound chart
 
   pub write_short : (buffer : List ℕ) → sound_chart c ≡ true → length buffer < form_size c.base_len c.series_len
-      → Writes c buffer buffer (Refused 15)
-  unfolding write_says answer_to_write buffer_after_write writing buffer_after
+      → Writes c buffer buffer (Err NoRoom)
+  unfolding result_says refusal_number answer_to_write buffer_after_write writing buffer_after
   write_short buffer t h = record { says = rw (t, no_room_lem buffer h); buffer = rw (t, no_room_lem buffer h) }
 
   pub write_done : (buffer after : List ℕ) (n : ℕ) → sound_chart c ≡ true → form_size c.base_len c.series_len ≤ length buffer
-      → Placed buffer 0 (stored_form (state_of c)) after n → Writes c buffer after (Done n)
-  unfolding write_says answer_to_write buffer_after_write writing buffer_after at_front
+      → Placed buffer 0 (stored_form (state_of c)) after n → Writes c buffer after (Ok n)
+  unfolding result_says refusal_number answer_to_write buffer_after_write writing buffer_after at_front
   write_done buffer after n t h placed =
       let form = stored_form (state_of c) in
       record {
@@ -69,8 +71,8 @@ module _ (c : Chart) (g : Given c) where
         buffer = rw (t, room buffer h) placed.buffer;
       }
 
-pub write_unsound : (c : Chart) (buffer : List ℕ) → sound_chart c ≡ false → Writes c buffer buffer (Refused 14)
-unfolding write_says answer_to_write buffer_after_write
+pub write_unsound : (c : Chart) (buffer : List ℕ) → sound_chart c ≡ false → Writes c buffer buffer (Err NotSound)
+unfolding result_says refusal_number answer_to_write buffer_after_write
 write_unsound c buffer t = record { says = rw t; buffer = rw t }
 
 -- where a record ends

@@ -1,19 +1,17 @@
 -- What writing and reading a chart give: document 01's writing and reading, applied to the state that the chart stands for.
-use Rattle.std.specs.Prelude.{◌≡◌, ◌&&◌, List, ℕ, ◌+◌, ◌*◌}
+use Rattle.std.specs.Prelude.{◌≡◌, ◌&&◌, List, ℕ, ◌+◌, ◌*◌, Result, Ok, Err}
 use Rattle.rules.specs.Outcome.{Outcome, given, refused}
 use Rattle.rules.specs.Choice.{require, choose}
 use Rattle.rules.specs.Sizes.{base_most, series_most}
 use Rattle.rules.specs.State.{State}
 use Rattle.rules.specs.StoredForm.{form_fits, writing, buffer_after}
 use Rattle.rules.specs.ReadForm.{head_count}
+use Rattle.refusals.specs.Refusal.{refusal_number, result_says}
+use Rattle.refusals.specs.declared.Refusal.{Refusal}
 use Rattle.chart.specs.declared.Chart.{Chart}
+use Rattle.chart.specs.declared.Called.{Called}
 use Rattle.chart.specs.Chart.{state_of, chart_of, zero_chart}
 use Rattle.chart.specs.Soundness.{sound_chart}
-use Rattle.store.specs.declared.WriteAnswer.{WriteAnswer}
-use Rattle.store.specs.declared.WriteAnswer.TheVariants as write
-use Rattle.store.specs.declared.ReadAnswer.{ReadAnswer}
-use Rattle.store.specs.declared.ReadAnswer.TheVariants as read
-use Rattle.store.specs.declared.ReadChart.{ReadChart}
 
 -- the number of bytes of a record of n numbers: its length, its record kind and the numbers
 abbrev pub record_size : ℕ → ℕ
@@ -29,10 +27,6 @@ form_most = form_size base_most series_most
 
 -- ---- writing
 
-unfoldable pub write_says : WriteAnswer → Outcome ℕ
-write_says (write.Done n) = given n
-write_says (write.Refused n) = refused n
-
 -- 14 "a chart value handed in: not sound" comes first
 unfoldable pub answer_to_write : Chart → List ℕ → Outcome ℕ
 answer_to_write c buffer = require (sound_chart c) (refused 14) (writing (state_of c) buffer)
@@ -42,16 +36,16 @@ unfoldable pub buffer_after_write : Chart → List ℕ → List ℕ
 buffer_after_write c buffer = require (sound_chart c) buffer (buffer_after (state_of c) buffer)
 
 -- the contract of writing: its answer, and every byte of the buffer
-pub record Writes (c : Chart) (before after : List ℕ) (r : WriteAnswer) : Type 0 where
-  pub says : write_says r ≡ answer_to_write c before
+pub record Writes (c : Chart) (before after : List ℕ) (r : Result ℕ Refusal) : Type 0 where
+  pub says : result_says r ≡ answer_to_write c before
   pub buffer : after ≡ buffer_after_write c before
 
 -- ---- reading
 
 -- what an answer and the chart that comes with it say
-unfoldable pub read_says : Chart → ReadAnswer → Outcome State
-read_says c read.Done = given (state_of c)
-read_says c (read.Refused n) = refused n
+unfoldable pub read_says : Chart → Result (Unit {0}) Refusal → Outcome State
+read_says c (Ok _) = given (state_of c)
+read_says c (Err r) = refused (refusal_number r)
 
 -- the chart that goes with reading's answer: "a refused build or read gives a chart of zeros"
 unfoldable pub chart_after_reading : Outcome State → Chart
@@ -60,7 +54,7 @@ chart_after_reading (refused n) = zero_chart
 
 -- r says what the answer a says, and its chart is the one that goes with a. In the contract of reading, a is the answer that
 -- `ReadForm.reading` gives for the bytes
-pub record IsRead (a : Outcome State) (r : ReadChart) : Type 0 where
+pub record IsRead (a : Outcome State) (r : Called (Unit {0})) : Type 0 where
   pub chart : r.chart ≡ chart_after_reading a
   pub says : read_says r.chart r.answer ≡ a
 
@@ -78,7 +72,7 @@ unfoldable pub chart_returned : Chart → List ℕ → Chart
 chart_returned c buffer = choose (sound_chart c && form_fits (state_of c) buffer) c zero_chart
 
 -- the contract of writing and reading back: the chart, the answer, and every byte of the buffer
-pub record Returns (c : Chart) (before after : List ℕ) (r : ReadChart) : Type 0 where
+pub record Returns (c : Chart) (before after : List ℕ) (r : Called (Unit {0})) : Type 0 where
   pub chart : r.chart ≡ chart_returned c before
   pub says : read_says r.chart r.answer ≡ answer_to_return c before
   pub buffer : after ≡ buffer_after_write c before

@@ -13,6 +13,7 @@ mod records;
 
 ghost use Rattle.std.specs.Prelude.{◌≡◌, true, ◌≤◌, length, Some};
 ghost use Rattle.rules.specs.Outcome.{refused};
+ghost use Rattle.refusals.specs.Refusal.{refusal_number};
 ghost use Rattle.rules.specs.Sizes.{base_most, series_most};
 ghost use Rattle.rules.specs.StoredForm.{stored_form};
 ghost use Rattle.rules.specs.ReadForm.{reading};
@@ -23,29 +24,11 @@ ghost use Rattle.store.specs.Records.{layout_of, LiesWithin, filled_from};
 ghost use Rattle.store.specs.Store.{Writes, IsRead, Returns, form_size};
 
 use chart::soundness::is_sound;
-use chart::{Chart, zero_chart};
+use chart::{Called, Chart, zero_chart};
 use numbers::word_of;
 use reader::{BEFORE_NUMBERS, Cursor};
 use records::{Place, find_record, nth_number, put_record};
-
-#[derive(Clone, Copy)]
-pub enum WriteAnswer {
-    // The number of bytes.
-    Done(usize),
-    Refused(u16),
-}
-
-#[derive(Clone, Copy)]
-pub enum ReadAnswer {
-    Done,
-    Refused(u16),
-}
-
-#[derive(Clone, Copy)]
-pub struct ReadChart {
-    pub chart: Chart,
-    pub answer: ReadAnswer,
-}
+use refusals::Refusal;
 
 // The places of the three records of a stored form.
 #[derive(Clone, Copy)]
@@ -71,45 +54,45 @@ pub const FORM_MOST: usize = 3 * BEFORE_NUMBERS
     + 2 * (HEAD_COUNT + Chart::BASE_MOST + Chart::SERIES_MOST);
 
 // Writes the stored form to the front of the buffer. The bytes after it do not change.
-pub fn write(chart: Chart, out: &mut [u8]) -> WriteAnswer
+pub fn write(chart: Chart, out: &mut [u8]) -> Result<usize, Refusal>
     ensures { Writes chart out.old out.new result }
 {
     if !chart.sound() {
-        return WriteAnswer::Refused(14);
+        return Err(Refusal::NotSound);
     }
     write_sound(chart, out)
 }
 
 // The same for a chart that is known to be sound: one that was just read, or one that a call on a sound chart gave back.
-pub fn write_sound(chart: Chart, out: &mut [u8]) -> WriteAnswer
+pub fn write_sound(chart: Chart, out: &mut [u8]) -> Result<usize, Refusal>
     requires { sound_chart chart ≡ true }
     ensures { Writes chart out.old out.new result }
 {
     if out.len() < form_size(chart.base_len, chart.series_len) {
-        return WriteAnswer::Refused(15);
+        return Err(Refusal::NoRoom);
     }
-    WriteAnswer::Done(put_form(chart, out))
+    Ok(put_form(chart, out))
 }
 
 // Reads the chart that has these bytes as its stored form.
-pub fn read(bytes: &[u8]) -> ReadChart
+pub fn read(bytes: &[u8]) -> Called<()>
     ensures { IsRead (reading bytes.now) result }
 {
     let Some(layout) = lay_out(bytes) else {
-        return declined_read(13);
+        return declined_read(Refusal::NoStoredForm);
     };
     read_form(bytes, layout)
 }
 
-// Writes a chart and reads the written bytes back. This gives the same chart. If writing refuses, the answer is the number of the refusal
-// with the chart of zeros.
-pub fn write_and_read(chart: Chart, out: &mut [u8]) -> ReadChart
+// Writes a chart and reads the written bytes back. This gives the same chart. If writing refuses, the answer is that refusal, with the
+// chart of zeros.
+pub fn write_and_read(chart: Chart, out: &mut [u8]) -> Called<()>
     ensures { Returns chart out.old out.new result }
 {
     let written = write(chart, out);
     match written {
-        WriteAnswer::Done(size) => read(&out[..size]),
-        WriteAnswer::Refused(number) => declined_read(number),
+        Ok(size) => read(&out[..size]),
+        Err(refusal) => declined_read(refusal),
     }
 }
 
@@ -173,7 +156,7 @@ fn lay_out(bytes: &[u8]) -> Option<Layout>
 // The chart that the three records hold. The soundness test runs on the two arrays into which the words were read. The chart is then made
 // once, inside the answer. A test of a chart value would copy the arrays once for the test, and once more into the answer.
 #[tactic(auto, using(crate::proofs::Reading::base_few, crate::proofs::Reading::series_few))]
-fn read_form(bytes: &[u8], layout: Layout) -> ReadChart
+fn read_form(bytes: &[u8], layout: Layout) -> Called<()>
     requires { layout_of bytes.now ≡ Some layout }
     ensures { IsRead (reading bytes.now) result }
 {
@@ -194,9 +177,9 @@ fn read_form(bytes: &[u8], layout: Layout) -> ReadChart
         status,
         open_verdict,
     ) {
-        return declined_read(14);
+        return declined_read(Refusal::NotSound);
     }
-    ReadChart {
+    Called {
         chart: Chart {
             kind,
             base: base_words,
@@ -206,7 +189,7 @@ fn read_form(bytes: &[u8], layout: Layout) -> ReadChart
             status,
             open_verdict,
         },
-        answer: ReadAnswer::Done,
+        answer: Ok(()),
     }
 }
 
@@ -221,11 +204,11 @@ fn fill(words: &mut [i16], bytes: &[u8], place: Place)
 }
 
 // What a refused read answers.
-fn declined_read(number: u16) -> ReadChart
-    ensures { IsRead (refused number) result }
+fn declined_read(refusal: Refusal) -> Called<()>
+    ensures { IsRead (refused (refusal_number refusal)) result }
 {
-    ReadChart {
+    Called {
         chart: zero_chart(),
-        answer: ReadAnswer::Refused(number),
+        answer: Err(refusal),
     }
 }

@@ -4,6 +4,7 @@ use mathlib.Core.Path.{sym}
 use lib.Seq.{length-take-le}
 use Rattle.chart.specs.Chart.{state_of}
 use Rattle.rules.proofs.Booleans.{answered_no, answered_yes}
+use Rattle.refusals.specs.Refusal.{refusal_number}
 use Rattle.store.proofs.Reading.{head_there, base_there, series_there, base_few, series_few, read_unsound, read_done, read_declined}
 use Rattle.store.proofs.read_form.Goals as goal
 
@@ -33,7 +34,7 @@ slice_bounds-is_sound-end-2 c =
     sym (length-take-le _ c.fill-2.new.words (omega arith))
 
 pub returns-then-not-is_sound : goal.returns-then-not-is_sound
-unfolding state_of
+unfolding state_of refusal_number
 returns-then-not-is_sound c =
     let unsound =
     read_unsound _ _ c.requires c.fill.ensures c.fill-2.ensures c.nth_number-kind.ensures c.nth_number-status.ensures

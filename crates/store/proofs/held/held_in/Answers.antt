@@ -1,9 +1,14 @@
 -- `store::held::held_in` meets its contract.
+use mathlib.Core.Path.{◌≡◌}
+use Rattle.std.proofs.Common.{rules}
+use Rattle.std.specs.Prelude.{Err}
 use Rattle.store.proofs.HeldChart.{held_read, held_not_read}
 use Rattle.store.proofs.held.held_in.Goals as goal
 
-pub returns-in-Done : goal.returns-in-Done
-returns-in-Done c = held_read _ (rw c.in-Done.is at c.read-back.ensures)
+pub returns-in_err-back : goal.returns-in_err-back
+returns-in_err-back c =
+    let same : c.from_residual.result ≡ Err c.in_err-back.field-0.0 = search rules in
+    rw same (held_not_read _ _ c.read-back.ensures _ c.in_err-back.was)
 
-pub returns-in-Refused : goal.returns-in-Refused
-returns-in-Refused c = held_not_read _ (rw c.in-Refused.is at c.read-back.ensures)
+pub returns : goal.returns
+returns c = held_read _ _ c.read-back.ensures c.in_ok-back.was
