@@ -1,3 +1,2 @@
 -- Laws of the words of a chart that are shown, and of how long the texts can be.
-mod FirstWords
 pub mod Lengths

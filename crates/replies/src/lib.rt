@@ -1,101 +1,99 @@
 // What the calls answer, as text at the front of a buffer. Each function answers the place after its text.
 #![tactic(auto)]
 
-ghost use Rattle.std.specs.Prelude.{◌≡◌, ◌++◌, min};
-ghost use Rattle.words.specs.Formed.{formed_says};
+ghost use Rattle.std.specs.Prelude.{◌≡◌, ◌++◌, take};
+ghost use Rattle.refusals.specs.Refusal.{refusal_number, result_says};
 ghost use Rattle.chart.specs.Chart.{state_of, build_says};
 ghost use Rattle.chart.specs.Calls.{post_says, reanalysis_says, correction_says, renewal_says};
 ghost use Rattle.lines.specs.Lines.{lines_say, lines_answer_says};
 ghost use Rattle.store.specs.Store.{read_says};
 ghost use Rattle.printing.specs.Output.{Puts};
 ghost use Rattle.replies.specs.Faults.{fault_text};
-ghost use Rattle.replies.specs.Texts.{named_text, refusal_text, word_text, rounds_text, formed_text, building_text, answer_text};
+ghost use Rattle.replies.specs.Texts.{named_text, refusal_text, word_text, outcome_text, rounds_text, formed_text, building_text, answer_text};
 ghost use Rattle.replies.specs.Texts.{chart_line_text, lines_text, bytes_text, reading_text, list_text, state_text, five_lines_text};
 ghost use Rattle.rules.specs.Outcome.{given};
 
-use chart::{BuildAnswer, Chart, CorrectionAnswer, PostAnswer, ReanalysisAnswer, RenewalAnswer};
-use lines::{Lines, LinesAnswer, TwoSidedLines, parts_in};
+use chart::{Chart, Counts, Judged, Retested};
+use lines::{Lines, TwoSidedLines, parts_in};
 use printing::hex::put_hex;
 use printing::numbers::{put_decimal, put_parts, put_signed, put_words};
 use printing::put_text;
-use store::ReadAnswer;
-use words::Formed;
+use refusals::Refusal;
 
-pub fn put_formed(out: &mut [u8], formed: Formed) -> usize
-    ensures { Puts out.old 0 (formed_text (formed_says formed)) out.new result }
+pub fn put_formed(out: &mut [u8], formed: Result<i16, Refusal>) -> usize
+    ensures { Puts out.old 0 (formed_text (result_says formed)) out.new result }
 {
     match formed {
-        Formed::Word(w) => put_word(out, w),
-        Formed::Refused(n) => put_refusal(out, n),
+        Ok(w) => put_word(out, w),
+        Err(refusal) => put_refusal(out, refusal),
     }
 }
 
 // The text does not show the chart that building gave: it is the same for every chart.
-pub fn put_build(out: &mut [u8], answer: BuildAnswer) -> usize
+pub fn put_build(out: &mut [u8], answer: Result<Counts, Refusal>) -> usize
     ensures { (built : Chart) → Puts out.old 0 (building_text (build_says built answer)) out.new result }
 {
     match answer {
-        BuildAnswer::Done { rounds, removed } => put_rounds(out, b"built ", rounds, removed),
-        BuildAnswer::Refused(n) => put_refusal(out, n),
+        Ok(counts) => put_rounds(out, b"built ", counts),
+        Err(refusal) => put_refusal(out, refusal),
     }
 }
 
-pub fn put_post(out: &mut [u8], answer: PostAnswer) -> usize
+pub fn put_post(out: &mut [u8], answer: Result<Judged, Refusal>) -> usize
     ensures { Puts out.old 0 (answer_text (post_says answer)) out.new result }
 {
     match answer {
-        PostAnswer::Judged { word, verdict } => {
-            let at = put_word(out, word);
-            put_named(out, at, b" verdict ", verdict as u64)
+        Ok(judged) => {
+            let at = put_word(out, judged.word);
+            put_named(out, at, b" verdict ", judged.verdict as u64)
         }
-        PostAnswer::Refused(n) => put_refusal(out, n),
+        Err(refusal) => put_refusal(out, refusal),
     }
 }
 
-pub fn put_reanalysis(out: &mut [u8], answer: ReanalysisAnswer) -> usize
+pub fn put_reanalysis(out: &mut [u8], answer: Result<Retested, Refusal>) -> usize
     ensures { Puts out.old 0 (answer_text (reanalysis_says answer)) out.new result }
 {
     match answer {
-        ReanalysisAnswer::Passed(w) => put_outcome(out, w, b" passed"),
-        ReanalysisAnswer::Failed(w) => put_outcome(out, w, b" failed"),
-        ReanalysisAnswer::Refused(n) => put_refusal(out, n),
+        Ok(retested) => put_retested(out, retested),
+        Err(refusal) => put_refusal(out, refusal),
     }
 }
 
-pub fn put_correction(out: &mut [u8], answer: CorrectionAnswer) -> usize
+pub fn put_correction(out: &mut [u8], answer: Result<(), Refusal>) -> usize
     ensures { Puts out.old 0 (answer_text (correction_says answer)) out.new result }
 {
     match answer {
-        CorrectionAnswer::Done => put_text(out, 0, b"corrected"),
-        CorrectionAnswer::Refused(n) => put_refusal(out, n),
+        Ok(()) => put_text(out, 0, b"corrected"),
+        Err(refusal) => put_refusal(out, refusal),
     }
 }
 
-pub fn put_renewal(out: &mut [u8], answer: RenewalAnswer) -> usize
+pub fn put_renewal(out: &mut [u8], answer: Result<Counts, Refusal>) -> usize
     ensures { Puts out.old 0 (answer_text (renewal_says answer)) out.new result }
 {
     match answer {
-        RenewalAnswer::Done { rounds, removed } => put_rounds(out, b"renewed ", rounds, removed),
-        RenewalAnswer::Refused(n) => put_refusal(out, n),
+        Ok(counts) => put_rounds(out, b"renewed ", counts),
+        Err(refusal) => put_refusal(out, refusal),
     }
 }
 
-pub fn put_lines(out: &mut [u8], answer: LinesAnswer) -> usize
+pub fn put_lines(out: &mut [u8], answer: Result<Lines, Refusal>) -> usize
     ensures { Puts out.old 0 (lines_text (lines_answer_says answer)) out.new result }
 {
     match answer {
-        LinesAnswer::Done(l) => put_each_line(out, l),
-        LinesAnswer::Refused(n) => put_refusal(out, n),
+        Ok(l) => put_each_line(out, l),
+        Err(refusal) => put_refusal(out, refusal),
     }
 }
 
 // What reading a stored form answers. The text is the same for every chart that was taken.
-pub fn put_form_read(out: &mut [u8], answer: ReadAnswer) -> usize
+pub fn put_form_read(out: &mut [u8], answer: Result<(), Refusal>) -> usize
     ensures { (taken : Chart) → Puts out.old 0 (reading_text (read_says taken answer)) out.new result }
 {
     match answer {
-        ReadAnswer::Done => put_text(out, 0, b"read"),
-        ReadAnswer::Refused(n) => put_refusal(out, n),
+        Ok(()) => put_text(out, 0, b"read"),
+        Err(refusal) => put_refusal(out, refusal),
     }
 }
 
@@ -115,22 +113,35 @@ pub fn put_chart(out: &mut [u8], chart: Chart) -> usize
     let behind_kind = put_named(out, 0, b"chart kind ", chart.kind as u64);
     let behind_status = put_named(out, behind_kind, b" status ", chart.status as u64);
     let behind_verdict = put_named(out, behind_status, b" verdict ", chart.open_verdict as u64);
-    let base = chart.base;
-    let n = smaller(chart.base_len, Chart::BASE_MOST);
-    let behind_base = put_list(out, behind_verdict, b" base ", &base[..n]);
-    let series = chart.series;
-    let m = smaller(chart.series_len, Chart::SERIES_MOST);
-    put_list(out, behind_base, b" series ", &series[..m])
+    let behind_base = put_list(
+        out,
+        behind_verdict,
+        b" base ",
+        first_words(&chart.base, chart.base_len),
+    );
+    put_list(
+        out,
+        behind_base,
+        b" series ",
+        first_words(&chart.series, chart.series_len),
+    )
 }
 
-pub fn put_refusal(out: &mut [u8], n: u16) -> usize
-    ensures { Puts out.old 0 (refusal_text n) out.new result }
+// The first n words, or all if there are fewer.
+fn first_words(words: &[i16], n: usize) -> &[i16]
+    ensures { result.now ≡ take n words.now }
 {
-    put_named(out, 0, b"refused ", n as u64)
+    &words[..n.min(words.len())]
+}
+
+pub fn put_refusal(out: &mut [u8], refusal: Refusal) -> usize
+    ensures { Puts out.old 0 (refusal_text (refusal_number refusal)) out.new result }
+{
+    put_named(out, 0, b"refused ", refusal.number() as u64)
 }
 
 // What can be wrong with a line.
-#[derive(Clone, Copy)]
+#[derive(Clone, Copy, Debug, PartialEq, Eq)]
 pub enum Fault {
     UnknownCommand,
     MissingNumber,
@@ -142,48 +153,37 @@ pub enum Fault {
     LineTooLong,
 }
 
+impl Fault {
+    // What is wrong with the line, and what to do.
+    fn text(self) -> &'static [u8]
+        ensures { result.now ≡ fault_text self }
+    {
+        match self {
+            Fault::UnknownCommand => {
+                b"error: unknown command; control_chart help lists the commands"
+            }
+            Fault::MissingNumber => {
+                b"error: missing number; control_chart help shows what each command takes"
+            }
+            Fault::ExtraNumber => {
+                b"error: extra number; control_chart help shows what each command takes"
+            }
+            Fault::NotANumber => {
+                b"error: not a number; numbers are whole and in decimal, as 10250 or -313"
+            }
+            Fault::NumberTooLarge => b"error: number too large; a reading is at most 1000000000",
+            Fault::NotAHexDigit => b"error: not a hex digit; hex digits are 0 to 9 and a to f",
+            Fault::OddHexDigits => b"error: odd number of hex digits; a byte has two",
+            Fault::LineTooLong => b"error: line too long; a line has at most 8191 bytes",
+        }
+    }
+}
+
 // The text of a fault in a line.
 pub fn put_fault(out: &mut [u8], fault: Fault) -> usize
     ensures { Puts out.old 0 (fault_text fault) out.new result }
 {
-    match fault {
-        Fault::UnknownCommand => put_text(
-            out,
-            0,
-            b"error: unknown command; control_chart help lists the commands",
-        ),
-        Fault::MissingNumber => put_text(
-            out,
-            0,
-            b"error: missing number; control_chart help shows what each command takes",
-        ),
-        Fault::ExtraNumber => put_text(
-            out,
-            0,
-            b"error: extra number; control_chart help shows what each command takes",
-        ),
-        Fault::NotANumber => put_text(
-            out,
-            0,
-            b"error: not a number; numbers are whole and in decimal, as 10250 or -313",
-        ),
-        Fault::NumberTooLarge => put_text(
-            out,
-            0,
-            b"error: number too large; a reading is at most 1000000000",
-        ),
-        Fault::NotAHexDigit => put_text(
-            out,
-            0,
-            b"error: not a hex digit; hex digits are 0 to 9 and a to f",
-        ),
-        Fault::OddHexDigits => put_text(out, 0, b"error: odd number of hex digits; a byte has two"),
-        Fault::LineTooLong => put_text(
-            out,
-            0,
-            b"error: line too long; a line has at most 8191 bytes",
-        ),
-    }
+    put_text(out, 0, fault.text())
 }
 
 // ---- parts of texts
@@ -196,20 +196,25 @@ fn put_word(out: &mut [u8], w: i16) -> usize
 }
 
 // A reanalysed word, and whether it passed.
-fn put_outcome(out: &mut [u8], w: i16, outcome: &[u8]) -> usize
-    ensures { Puts out.old 0 (word_text w ++ outcome.now) out.new result }
+fn put_retested(out: &mut [u8], retested: Retested) -> usize
+    ensures { Puts out.old 0 (word_text retested.word ++ outcome_text retested.passed) out.new result }
 {
-    let at = put_word(out, w);
+    let at = put_word(out, retested.word);
+    let outcome = if retested.passed {
+        b" passed"
+    } else {
+        b" failed"
+    };
     put_text(out, at, outcome)
 }
 
 // What was done, the number of rounds and the number of words removed.
-fn put_rounds(out: &mut [u8], done: &[u8], rounds: usize, removed: usize) -> usize
-    ensures { Puts out.old 0 (done.now ++ rounds_text rounds removed) out.new result }
+fn put_rounds(out: &mut [u8], done: &[u8], counts: Counts) -> usize
+    ensures { Puts out.old 0 (done.now ++ rounds_text counts.rounds counts.removed) out.new result }
 {
     let at = put_text(out, 0, done);
-    let behind_rounds = put_named(out, at, b"rounds ", rounds as u64);
-    put_named(out, behind_rounds, b" removed ", removed as u64)
+    let behind_rounds = put_named(out, at, b"rounds ", counts.rounds as u64);
+    put_named(out, behind_rounds, b" removed ", counts.removed as u64)
 }
 
 fn put_each_line(out: &mut [u8], lines: Lines) -> usize
@@ -262,10 +267,4 @@ fn put_list(out: &mut [u8], at: usize, name: &[u8], words: &[i16]) -> usize
 {
     let behind_count = put_named(out, at, name, words.len() as u64);
     put_words(out, behind_count, words)
-}
-
-fn smaller(a: usize, b: usize) -> usize
-    ensures { result ≡ min a b }
-{
-    if a < b { a } else { b }
 }

@@ -2,12 +2,12 @@
 use Rattle.chart.specs.Chart.{build_says}
 use Rattle.replies.proofs.put_build.Goals as goal
 
-pub returns-in-Done : goal.returns-in-Done
+pub returns-in-Ok : goal.returns-in-Ok
 unfolding build_says
-returns-in-Done c built =
-    rw c.in-Done.is c.put_rounds.ensures
+returns-in-Ok c built =
+    rw c.in-Ok.is c.put_rounds.ensures
 
-pub returns-in-Refused : goal.returns-in-Refused
+pub returns-in-Err : goal.returns-in-Err
 unfolding build_says
-returns-in-Refused c built =
-    rw c.in-Refused.is c.put_refusal.ensures
+returns-in-Err c built =
+    rw c.in-Err.is c.put_refusal.ensures

@@ -2,12 +2,12 @@
 use Rattle.chart.specs.Calls.{correction_says}
 use Rattle.replies.proofs.put_correction.Goals as goal
 
-pub returns-in-Done : goal.returns-in-Done
+pub returns-in-Ok : goal.returns-in-Ok
 unfolding correction_says
-returns-in-Done c =
-    rw c.in-Done.is c.put_text.ensures
+returns-in-Ok c =
+    rw c.in-Ok.is c.put_text.ensures
 
-pub returns-in-Refused : goal.returns-in-Refused
+pub returns-in-Err : goal.returns-in-Err
 unfolding correction_says
-returns-in-Refused c =
-    rw c.in-Refused.is c.put_refusal.ensures
+returns-in-Err c =
+    rw c.in-Err.is c.put_refusal.ensures

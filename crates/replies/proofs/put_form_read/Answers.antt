@@ -2,12 +2,12 @@
 use Rattle.store.specs.Store.{read_says}
 use Rattle.replies.proofs.put_form_read.Goals as goal
 
-pub returns-in-Done : goal.returns-in-Done
+pub returns-in-Ok : goal.returns-in-Ok
 unfolding read_says
-returns-in-Done c taken =
-    rw c.in-Done.is c.put_text.ensures
+returns-in-Ok c taken =
+    rw c.in-Ok.is c.put_text.ensures
 
-pub returns-in-Refused : goal.returns-in-Refused
+pub returns-in-Err : goal.returns-in-Err
 unfolding read_says
-returns-in-Refused c taken =
-    rw c.in-Refused.is c.put_refusal.ensures
+returns-in-Err c taken =
+    rw c.in-Err.is c.put_refusal.ensures

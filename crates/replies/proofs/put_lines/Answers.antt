@@ -2,12 +2,12 @@
 use Rattle.lines.specs.Lines.{lines_answer_says}
 use Rattle.replies.proofs.put_lines.Goals as goal
 
-pub returns-in-Done : goal.returns-in-Done
+pub returns-in-Ok : goal.returns-in-Ok
 unfolding lines_answer_says
-returns-in-Done c =
-    rw c.in-Done.is c.put_each_line.ensures
+returns-in-Ok c =
+    rw c.in-Ok.is c.put_each_line.ensures
 
-pub returns-in-Refused : goal.returns-in-Refused
+pub returns-in-Err : goal.returns-in-Err
 unfolding lines_answer_says
-returns-in-Refused c =
-    rw c.in-Refused.is c.put_refusal.ensures
+returns-in-Err c =
+    rw c.in-Err.is c.put_refusal.ensures

@@ -6,13 +6,13 @@ use Rattle.chart.specs.Calls.{post_says}
 use Rattle.printing.proofs.Putting.{puts_then}
 use Rattle.replies.proofs.put_post.Goals as goal
 
-pub returns-in-Judged : goal.returns-in-Judged
+pub returns-in-Ok : goal.returns-in-Ok
 unfolding post_says
-returns-in-Judged c =
-    rw c.in-Judged.is
-    (puts_then (rw (to_z-of_z {w = w16} {z = c.in-Judged.word} (search rules)) at c.put_word-at.ensures) c.put_named.ensures)
+returns-in-Ok c =
+    rw c.in-Ok.is
+    (puts_then (rw (to_z-of_z {w = w16} {z = c.in-Ok.judged.word} (search rules)) at c.put_word-at.ensures) c.put_named.ensures)
 
-pub returns-in-Refused : goal.returns-in-Refused
+pub returns-in-Err : goal.returns-in-Err
 unfolding post_says
-returns-in-Refused c =
-    rw c.in-Refused.is c.put_refusal.ensures
+returns-in-Err c =
+    rw c.in-Err.is c.put_refusal.ensures

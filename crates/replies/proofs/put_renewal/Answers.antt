@@ -2,12 +2,12 @@
 use Rattle.chart.specs.Calls.{renewal_says}
 use Rattle.replies.proofs.put_renewal.Goals as goal
 
-pub returns-in-Done : goal.returns-in-Done
+pub returns-in-Ok : goal.returns-in-Ok
 unfolding renewal_says
-returns-in-Done c =
-    rw c.in-Done.is c.put_rounds.ensures
+returns-in-Ok c =
+    rw c.in-Ok.is c.put_rounds.ensures
 
-pub returns-in-Refused : goal.returns-in-Refused
+pub returns-in-Err : goal.returns-in-Err
 unfolding renewal_says
-returns-in-Refused c =
-    rw c.in-Refused.is c.put_refusal.ensures
+returns-in-Err c =
+    rw c.in-Err.is c.put_refusal.ensures
