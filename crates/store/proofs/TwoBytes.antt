@@ -1,19 +1,18 @@
--- Laws of numbers in two bytes, as the code makes them: a word's number (`bits_are`), a number's word (`word_is`), the number at a byte
--- (`number_is`), a number put by a copy of two bytes (`placed_number`), words put one after the other (`words_end`, `words_then`), a record put in
--- parts (`record_placed`).
+-- Laws of numbers in two bytes, as the code makes them: a word's number (`bits_are`), a number's word (`word_is`), a number put by a copy of
+-- its two bytes (`placed_number`), words put one after the other (`words_end`, `words_then`), a record put in parts (`record_placed`).
 use mathlib.Core.Path.{◌≡◌, refl, ◌∙◌}
 use mathlib.Core.List.{List, [], ◌∷◌, map, map-append}
 use Prim.Native.Nat.{ℕ, suc, ◌+◌, ◌*◌, ◌-◌, ◌/◌, ◌%◌, ◌<◌, ◌≤◌}
 use native.Mathlib.Omega.{arith}
 use native.Mathlib.Numerals.{add-one}
-use lib.ListN.{length, take, drop, get_or, length-map, length-take}
-use lib.Seq.{take-suc, get_or-drop}
+use lib.ListN.{length, take, get_or, length-map, length-take}
+use lib.Seq.{take-suc}
 use lib.IntN.{ℤ, pos, negsuc}
 use lib.Dec.{ltb}
 use borrow.Rule.Slice.PartMut.{put_mid, Post-is}
 use mir.Syntax.{w16}
 use mir.Val.{to_z, of_z}
-use Rattle.rules.specs.Bytes.{bytes_of, number_in, number_of, word_of}
+use Rattle.rules.specs.Bytes.{bytes_of, number_of, word_of}
 use Rattle.rules.specs.StoredForm.{record_of}
 use Rattle.rules.proofs.Booleans.{by_test}
 use Rattle.rules.proofs.Bytes.{length_bytes, bytes_joined}
@@ -38,14 +37,6 @@ word_is n h =
     (λ t.
     let magnitude : 65536 - n ≡ suc (65536 - suc n) = omega arith in
     rw (t, magnitude))
-
--- ---- the number at a byte
-
-pub number_is : (bytes : List ℕ) (at : ℕ) → get_or bytes at 0 + 256 * get_or bytes (at + 1) 0 ≡ number_in (drop at bytes)
-unfolding number_in
-number_is bytes at =
-    let here : at + 0 ≡ at = omega arith in
-    rw (get_or-drop at bytes 0 0, get_or-drop at bytes 1 0, here)
 
 -- ---- numbers that are put into a buffer
 

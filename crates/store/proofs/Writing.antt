@@ -1,12 +1,12 @@
 -- Laws of writing: the stored form's size (`form_size_lem`, `form_within`), its three records one after the other (`form_placed`), and
 -- writing's contract in each of its cases (`write_unsound`, `write_short`, `write_done`).
-use mathlib.Core.Path.{◌≡◌, ap, ◌∙◌}
+use mathlib.Core.Path.{◌≡◌, sym, ap, ◌∙◌}
 use mathlib.Core.Bool.{true, false}
 use mathlib.Core.List.{List, ◌++◌, map, append_assoc}
 use Prim.Native.Nat.{ℕ, ◌+◌, ◌*◌, ◌<◌, ◌≤◌}
 use native.Mathlib.Omega.{arith}
 use native.Mathlib.Nat.{zero-add}
-use lib.ListN.{length, length-append}
+use lib.ListN.{length, take, length-append}
 use lib.IntN.{ℤ}
 use mir.Syntax.{w16}
 use mir.Val.{SFits, to_z, of_z}
@@ -15,6 +15,7 @@ use borrow.Author.Tests.{le-leb, lt-leb}
 use Rattle.rules.specs.Outcome.{given}
 use Rattle.rules.specs.State.{State}
 use Rattle.rules.specs.Soundness.{sound}
+use Rattle.rules.specs.Sizes.{base_most, series_most}
 use Rattle.rules.specs.Bytes.{number_of, word_of}
 use Rattle.rules.specs.StoredForm.{record_of, head_numbers, stored_form, form_fits, writing, buffer_after}
 use Rattle.rules.specs.Buffer.{Placed, at_front}
@@ -25,6 +26,7 @@ use Rattle.rules.proofs.Soundness.{sound_facts}
 use Rattle.chart.specs.declared.Chart.{Chart}
 use Rattle.chart.specs.Chart.{state_of}
 use Rattle.chart.specs.Soundness.{sound_chart}
+use Rattle.chart.proofs.State as state
 use Rattle.chart.proofs.State.{Given, base_count_lem, series_count_lem}
 use Rattle.store.specs.Store.{form_size, form_most, answer_to_write, buffer_after_write, Writes}
 use Rattle.std.specs.Prelude.{Ok, Err}
@@ -36,6 +38,21 @@ pub head_number : {r : ℤ} {k : ℕ} → SFits w16 r → k < 65536 → r ≡ wo
 head_number {r} {k} fits small is = ap number_of (to_z-of_z w16 r fits ∙ is) ∙ number_back k small
 
 -- ---- the form of a sound chart
+
+-- its counts of words
+module _ (c : Chart) (base_places : length c.base ≡ base_most) (series_places : length c.series ≡ series_most) (whole : sound_chart c ≡ true) where
+  pub sound_base_few : c.base_len ≤ base_most
+  sound_base_few = let g = state.given c base_places series_places whole in omega (arith, g.within.base_few)
+
+  pub sound_series_few : c.series_len ≤ series_most
+  sound_series_few = let g = state.given c base_places series_places whole in omega (arith, g.within.series_few)
+
+  -- the words in use are as many
+  pub base_taken : c.base_len ≡ length (take c.base_len c.base)
+  base_taken = sym (base_count_lem c (state.given c base_places series_places whole).within)
+
+  pub series_taken : c.series_len ≡ length (take c.series_len c.series)
+  series_taken = sym (series_count_lem c (state.given c base_places series_places whole).within)
 
 -- no form is longer than the longest
 pub form_within : (s : State) → sound s ≡ true → length (stored_form s) ≤ form_most

@@ -1,5 +1,5 @@
 // The stored form of a chart: document 01, "Stored form". It has three records. Every number is little-endian in two bytes, and words are
-// in two's complement. The code works out the bytes by arithmetic, so the byte order of the machine plays no part.
+// in two's complement. The code names the byte order in each conversion, so the byte order of the machine plays no part.
 //
 // Writing refuses, in this order: a chart that is not sound, with 14; a buffer shorter than the stored form, with 15. A refused write does
 // not change the buffer. Reading refuses, in this order: bytes that are not the three records, with 13; a chart that is not sound, with 14.
@@ -108,6 +108,15 @@ fn form_size(n: usize, m: usize) -> usize
 
 // Puts the stored form of a sound chart at the front of a buffer that has room for it. Answers its number of bytes. The numbers of the
 // first record are passed as the words that they stand for, so that one function writes all three records.
+#[tactic(
+    auto,
+    using(
+        crate::proofs::Writing::sound_base_few,
+        crate::proofs::Writing::sound_series_few,
+        crate::proofs::Writing::base_taken,
+        crate::proofs::Writing::series_taken
+    )
+)]
 fn put_form(chart: Chart, out: &mut [u8]) -> usize
     requires { (sound_chart chart ≡ true) × (form_size chart.base_len chart.series_len ≤ length out.old) }
     ensures { Placed out.old 0 (stored_form (state_of chart)) out.new result }

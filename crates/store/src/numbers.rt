@@ -20,7 +20,7 @@ pub fn word_of(n: u16) -> i16
 }
 
 // The number that begins at a byte.
-#[tactic(auto, using(crate::proofs::TwoBytes::number_is))]
+#[tactic(auto, unfolding(rules::specs::Bytes::number_in))]
 pub fn number_at(bytes: &[u8], at: usize) -> u16
     requires { at + 2 ≤ length bytes.now }
     ensures { result ≡ number_in (drop at bytes.now) }
