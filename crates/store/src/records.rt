@@ -19,6 +19,7 @@ pub struct Place {
 }
 
 // Puts a record of words into the buffer from a byte on. Answers the byte after it.
+#[tactic(auto, unfolding(rules::specs::Bytes::bytes_of))]
 pub fn put_record(out: &mut [u8], at: usize, record_kind: u16, words: &[i16]) -> usize
     requires { (length words.now ≤ series_most) × (at + record_size (length words.now) ≤ length out.old) }
     ensures { Placed out.old at (record_of record_kind (map number_of words.now)) out.new result }
@@ -56,6 +57,7 @@ pub fn find_record(
 }
 
 // Number i of the record at a place.
+#[tactic(auto, using(crate::proofs::RecordsIn::number_of_place))]
 pub fn nth_number(bytes: &[u8], place: Place, i: usize) -> u16
     requires { (i < place.count) × LiesWithin bytes.now place }
     ensures { result ≡ get_or (numbers_at bytes.now place) i 0 }
