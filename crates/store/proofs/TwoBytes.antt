@@ -1,5 +1,5 @@
--- Laws of numbers in two bytes, as the code makes them: a word's number (`bits_are`), a number's word (`word_is`), a number put by a copy of
--- its two bytes (`placed_number`), words put one after the other (`words_end`, `words_then`), a record put in parts (`record_placed`).
+-- Laws of numbers in two bytes, as the code makes them: a word's number (`bits_are`), a number's word (`word_is`), a number put by a copy
+-- of its two bytes (`placed_number`), words put one after the other (`words_end`, `words_then`), a record put in parts (`record_placed`).
 use mathlib.Core.Path.{◌≡◌, refl, ◌∙◌}
 use mathlib.Core.List.{List, [], ◌∷◌, map, map-append}
 use Prim.Native.Nat.{ℕ, suc, ◌+◌, ◌*◌, ◌-◌, ◌/◌, ◌%◌, ◌<◌, ◌≤◌}

@@ -40,19 +40,23 @@ head_number {r} {k} fits small is = ap number_of (to_z-of_z w16 r fits ∙ is) �
 -- ---- the form of a sound chart
 
 -- its counts of words
-module _ (c : Chart) (base_places : length c.base ≡ base_most) (series_places : length c.series ≡ series_most) (whole : sound_chart c ≡ true) where
-  pub sound_base_few : c.base_len ≤ base_most
-  sound_base_few = let g = state.given c base_places series_places whole in omega (arith, g.within.base_few)
+module _ (c : Chart) (base_places : length c.base ≡ base_most) (series_places : length c.series ≡ series_most)
+    (whole : sound_chart c ≡ true)
+  where
+    pub sound_base_few : c.base_len ≤ base_most
+    sound_base_few = let g = state.given c base_places series_places whole in omega (arith, g.within.base_few)
 
-  pub sound_series_few : c.series_len ≤ series_most
-  sound_series_few = let g = state.given c base_places series_places whole in omega (arith, g.within.series_few)
+    pub sound_series_few : c.series_len ≤ series_most
+    sound_series_few = let g = state.given c base_places series_places whole in omega (arith, g.within.series_few)
 
-  -- the words in use are as many
-  pub base_taken : c.base_len ≡ length (take c.base_len c.base)
-  base_taken = sym (base_count_lem c (state.given c base_places series_places whole).within)
+    -- the words in use are as many
+    pub base_taken : c.base_len ≡ length (take c.base_len c.base)
+    base_taken = sym (base_count_lem c (state.given c base_places series_places whole).within)
 
-  pub series_taken : c.series_len ≡ length (take c.series_len c.series)
-  series_taken = sym (series_count_lem c (state.given c base_places series_places whole).within)
+    pub series_taken : c.series_len ≡ length (take c.series_len c.series)
+    series_taken = sym (series_count_lem c (state.given c base_places series_places whole).within)
+
+pub ruleset sound_counts = (sound_base_few, sound_series_few, base_taken, series_taken)
 
 -- no form is longer than the longest
 pub form_within : (s : State) → sound s ≡ true → length (stored_form s) ≤ form_most

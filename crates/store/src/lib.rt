@@ -108,7 +108,7 @@ fn form_size(n: usize, m: usize) -> usize
 
 // Puts the stored form of a sound chart at the front of a buffer that has room for it. Answers its number of bytes. The numbers of the
 // first record are passed as the words that they stand for, so that one function writes all three records.
-#[tactic(auto, using(crate::proofs::Writing::sound_base_few, crate::proofs::Writing::sound_series_few, crate::proofs::Writing::base_taken, crate::proofs::Writing::series_taken))]
+#[tactic(auto, using(crate::proofs::Writing::sound_counts))]
 fn put_form(chart: Chart, out: &mut [u8]) -> usize
     requires { (sound_chart chart ≡ true) × (form_size chart.base_len chart.series_len ≤ length out.old) }
     ensures { Placed out.old 0 (stored_form (state_of chart)) out.new result }

@@ -17,5 +17,5 @@ pub returns : goal.returns
 returns c =
     let (few, within) = c.requires in
     let count = length-take-le c.args.place.count c.args.words.now few in
-    filled_lem c.args.bytes.now c.args.place c.args.words.now c.loop-i.word-items c.loop-i.i few (omega (arith, count)) (omega (arith, count))
-    c.loop-i.invariant
+    filled_lem c.args.bytes.now c.args.place c.args.words.now c.loop-i.word-items c.loop-i.i few (omega (arith, count))
+    (omega (arith, count)) c.loop-i.invariant
