@@ -7,6 +7,7 @@ use crate::verdict::{run_side, trend_of};
 use limits::{Limits, beyond_control, beyond_warning, near_mean, side_of_mean};
 
 // The series is the one before the reanalysis. Its last word is the one that the reanalysis would replace.
+#[tactic(auto, unfolding(rules::specs::Reanalysis::passes))]
 pub fn passes(l: Limits, open_verdict: u16, series: &[i16], w: i16) -> bool
     requires { Bounded l.sums }
     ensures { result ≡ rules.passes (limits_say l) open_verdict series.now w }
@@ -40,6 +41,7 @@ fn passes_warning(l: Limits, w: i16) -> bool
     !(b.upper | b.lower)
 }
 
+#[tactic(auto, unfolding(rules::specs::Reanalysis::passes_trend))]
 fn passes_trend(l: Limits, series: &[i16], w: i16) -> bool
     requires { Bounded l.sums }
     ensures { result ≡ rules.passes_trend (limits_say l) series.now w }
@@ -47,6 +49,7 @@ fn passes_trend(l: Limits, series: &[i16], w: i16) -> bool
     near_mean(l, w) | turns_back(series, w)
 }
 
+#[tactic(auto, unfolding(rules::specs::Reanalysis::passes_side))]
 fn passes_side(l: Limits, series: &[i16], w: i16) -> bool
     requires { Bounded l.sums }
     ensures { result ≡ rules.passes_side (limits_say l) series.now w }
@@ -55,19 +58,19 @@ fn passes_side(l: Limits, series: &[i16], w: i16) -> bool
 }
 
 // In a rising run the word is below the one before the last, in a falling run above it.
+#[tactic(auto, unfolding(rules::specs::Reanalysis::turns_back, rules::specs::LastWords::one_before_last))]
 fn turns_back(series: &[i16], w: i16) -> bool
     ensures { result ≡ rules.turns_back series.now w }
 {
-    let m = series.len();
     // Fewer than two words have no word before the last, and are no run.
-    if m < 2 {
+    let [.., before, _] = series else {
         return false;
-    }
+    };
     let t = trend_of(series);
-    let before = series[m - 2];
-    (t.rising & (w < before)) | (t.falling & (before < w))
+    (t.rising & (w < *before)) | (t.falling & (*before < w))
 }
 
+#[tactic(auto, unfolding(rules::specs::Reanalysis::on_runs_side))]
 fn on_runs_side(l: Limits, series: &[i16], w: i16) -> bool
     requires { Bounded l.sums }
     ensures { result ≡ rules.on_runs_side (limits_say l) series.now w }

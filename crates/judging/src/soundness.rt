@@ -11,6 +11,7 @@ use extremes::extremes_of;
 use limits::{Limits, beyond_control};
 
 // No base word is beyond a control limit, and no series word, save the last while status is not 0.
+#[tactic(auto, using(crate::proofs::Held::held_words, crate::proofs::Held::held_few), unfolding(rules::specs::Soundness::limits_hold))]
 pub fn limits_hold(l: Limits, base: &[i16], series: &[i16], status: u16) -> bool
     requires { Bounded l.sums }
     ensures { result ≡ limits_hold (limits_say l) base.now series.now status }
@@ -23,13 +24,7 @@ pub fn limits_hold(l: Limits, base: &[i16], series: &[i16], status: u16) -> bool
 fn held_count(m: usize, status: u16) -> usize
     ensures { result ≡ choose (eqb status 0) m (m - 1) }
 {
-    if status == 0 {
-        return m;
-    }
-    if m == 0 {
-        return 0;
-    }
-    m - 1
+    if status == 0 { m } else { m.saturating_sub(1) }
 }
 
 // A word between two words within the limits is within them too. So the least and the greatest word decide.
@@ -37,7 +32,7 @@ fn none_beyond_control(l: Limits, words: &[i16]) -> bool
     requires { Bounded l.sums }
     ensures { result ≡ none_of (beyond_control (limits_say l)) words.now }
 {
-    if words.len() == 0 {
+    if words.is_empty() {
         return true;
     }
     let e = extremes_of(words);
@@ -45,6 +40,7 @@ fn none_beyond_control(l: Limits, words: &[i16]) -> bool
 }
 
 // Status 0 goes with verdict 0. Status 1 or 2 goes with the open verdict 1..4 that the last word of the series has.
+#[tactic(auto, unfolding(rules::specs::Soundness::status_fits))]
 pub fn status_fits(l: Limits, series: &[i16], status: u16, open_verdict: u16) -> bool
     requires { Bounded l.sums }
     ensures { result ≡ status_fits (limits_say l) series.now status open_verdict }
@@ -60,8 +56,8 @@ fn open_fits(l: Limits, series: &[i16], status: u16, open_verdict: u16) -> bool
     requires { Bounded l.sums }
     ensures { result ≡ open_fits (limits_say l) series.now status open_verdict }
 {
-    let is_status = (1 <= status) & (status <= 2);
-    let is_verdict = (1 <= open_verdict) & (open_verdict <= 4);
+    let is_status = (1..=2).contains(&status);
+    let is_verdict = (1..=4).contains(&open_verdict);
     let same = open_verdict == verdict(l, series);
     is_status & ((1 <= series.len()) & (is_verdict & same))
 }

@@ -20,6 +20,7 @@ pub struct Trend {
 }
 
 // The verdict on the series' last word: the first that applies, in the order 1, 2, 4, 3.
+#[tactic(auto, unfolding(rules::specs::Verdict::verdict, rules::specs::Verdict::first_verdict))]
 pub fn verdict(l: Limits, series: &[i16]) -> u16
     requires { Bounded l.sums }
     ensures { result ≡ rules.verdict (limits_say l) series.now }
@@ -53,32 +54,31 @@ pub fn status_for(verdict: u16) -> u16
     1
 }
 
+#[tactic(auto, unfolding(rules::specs::Verdict::control_test, rules::specs::LastWords::last_word))]
 fn control_test(l: Limits, series: &[i16]) -> bool
     requires { Bounded l.sums }
     ensures { result ≡ rules.control_test (limits_say l) series.now }
 {
-    let m = series.len();
-    if m < 1 {
+    let [.., last] = series else {
         return false;
-    }
-    let w = series[m - 1];
-    beyond_control(l, w)
+    };
+    beyond_control(l, *last)
 }
 
-#[tactic(auto, using(crate::proofs::Judging::no_warning))]
+#[tactic(auto, unfolding(rules::specs::Verdict::warning_test))]
 fn warning_test(l: Limits, series: &[i16]) -> bool
     requires { Bounded l.sums }
     ensures { result ≡ rules.warning_test (limits_say l) series.now }
 {
-    let m = series.len();
-    if m < 2 {
+    let [.., before, last] = series else {
         return false;
-    }
-    let before = beyond_warning(l, series[m - 2]);
-    let last = beyond_warning(l, series[m - 1]);
+    };
+    let before = beyond_warning(l, *before);
+    let last = beyond_warning(l, *last);
     (before.upper & last.upper) | (before.lower & last.lower)
 }
 
+#[tactic(auto, unfolding(rules::specs::Verdict::trend_test))]
 fn trend_test(series: &[i16]) -> bool
     ensures { result ≡ rules.trend_test series.now }
 {
@@ -86,6 +86,7 @@ fn trend_test(series: &[i16]) -> bool
     t.rising | t.falling
 }
 
+#[tactic(auto, unfolding(rules::specs::Verdict::side_test))]
 fn side_test(l: Limits, series: &[i16]) -> bool
     requires { Bounded l.sums }
     ensures { result ≡ rules.side_test (limits_say l) series.now }
@@ -95,6 +96,7 @@ fn side_test(l: Limits, series: &[i16]) -> bool
 }
 
 // Verdict 4 is for kinds 2 and 3 only.
+#[tactic(auto, unfolding(rules::specs::Kind::judges_side))]
 fn judges_side(kind: u16) -> bool
     ensures { result ≡ judges_side kind }
 {
@@ -105,61 +107,49 @@ fn judges_side(kind: u16) -> bool
 pub fn trend_of(series: &[i16]) -> Trend
     ensures { IsTrend series.now result }
 {
-    let m = series.len();
-    if m < RUN {
+    let Some(run) = series.last_chunk::<RUN>() else {
         return Trend {
             rising: false,
             falling: false,
         };
-    }
-    let start = m - RUN;
-    orders_of(&series[start..])
+    };
+    orders_of(run)
 }
 
 pub fn run_side(l: Limits, series: &[i16]) -> Side
     requires { Bounded l.sums }
     ensures { IsRunSide (limits_say l) series.now result }
 {
-    let m = series.len();
-    if m < RUN {
+    let Some(run) = series.last_chunk::<RUN>() else {
         return Side {
             above: false,
             below: false,
         };
-    }
-    let start = m - RUN;
-    sides_of(l, &series[start..])
+    };
+    sides_of(l, run)
 }
 
 // Whether each word is below the next, and whether each word is above the next.
 fn orders_of(words: &[i16]) -> Trend
     ensures { AreOrders words.now result }
 {
-    let mut rising = true;
-    let mut falling = true;
-    let mut i: usize = 1;
-    while i < words.len() {
-        let before = words[i - 1];
-        let w = words[i];
-        rising = rising & (before < w);
-        falling = falling & (w < before);
-        i += 1;
+    Trend {
+        rising: words.is_sorted_by(|w, next| w < next),
+        falling: words.is_sorted_by(|w, next| next < w),
     }
-    Trend { rising, falling }
 }
 
+#[tactic(auto, using(crate::proofs::Judging::test_turn, crate::proofs::Judging::test_end))]
 fn sides_of(l: Limits, words: &[i16]) -> Side
     requires { Bounded l.sums }
     ensures { AreSides (limits_say l) words.now result }
 {
     let mut above = true;
     let mut below = true;
-    let mut i: usize = 0;
-    while i < words.len() {
-        let s = side_of_mean(l, words[i]);
-        above = above & s.above;
-        below = below & s.below;
-        i += 1;
+    for w in words {
+        let s = side_of_mean(l, *w);
+        above &= s.above;
+        below &= s.below;
     }
     Side { above, below }
 }

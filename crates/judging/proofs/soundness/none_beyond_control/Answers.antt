@@ -3,7 +3,7 @@
 use mathlib.Core.Path.{sym, ap}
 use mathlib.Core.Bool.{Bool, not}
 use native.Mathlib.Omega.{arith}
-use borrow.Author.Rules.{sfits_of}
+use Rattle.std.proofs.Common.{rules}
 use lib.IntN.{ℤ}
 use Rattle.rules.specs.AllOf.{none_of}
 use Rattle.rules.specs.Limits.{control_multiple, beyond_control}
@@ -13,16 +13,16 @@ use Rattle.limits.specs.Sums.{limits_say}
 use Rattle.extremes.proofs.Picking.{answers_decide}
 use Rattle.judging.proofs.soundness.none_beyond_control.Goals as goal
 
-pub returns-then-words-eq0 : goal.returns-then-words-eq0
+pub returns-then-is_empty : goal.returns-then-is_empty
 unfolding none_of
-returns-then-words-eq0 c =
+returns-then-is_empty c =
     let test : ℤ → Bool = λ w. not (beyond_control (limits_say c.args.l) w) in
-    sym (all_none test c.args.words.now 0 (omega arith))
+    sym (all_none test c.args.words.now 0 (grind arith))
 
 pub returns : goal.returns
 unfolding none_of beyond_control
 returns c =
     let test : ℤ → Bool = λ w. not (beyond_control (limits_say c.args.l) w) in
-    answers_decide test (within-between control_multiple (limits_say c.args.l)) c.args.words.now (omega arith)
-    c.extremes_of-e.ensures (sfits_of c.struct_told-1.given.0.1) (sfits_of c.struct_told-2-1.given.1.0.1)
+    answers_decide test (within-between control_multiple (limits_say c.args.l)) c.args.words.now (grind arith)
+    c.extremes_of-e.ensures (search rules) (search rules)
     (ap not c.beyond_control.ensures) (ap not c.beyond_control-2.ensures)
