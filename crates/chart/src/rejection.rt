@@ -105,7 +105,7 @@ fn without_marked(
     ensures { HoldsWords (without_marked (take n marks) (take n words)) result }
 {
     let mut left = [0i16; Chart::BASE_MOST];
-    let mut kept: usize = 0;
+    let mut kept = 0;
     for (i, &w) in words[..n].iter().enumerate() {
         if !marks[i] {
             left[kept] = w;

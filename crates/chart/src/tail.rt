@@ -1,5 +1,5 @@
 // Document 02, Q-4: the tail of base and series that a renewal uses.
-ghost use Rattle.std.specs.Prelude.{◌≡◌, ◌++◌, ◌+◌, ◌<◌, length, get_or, pos};
+ghost use Rattle.std.specs.Prelude.{◌≡◌, ◌++◌, pos};
 ghost use Rattle.rules.specs.Sizes.{base_most};
 ghost use Rattle.rules.specs.LastWords.{last_words};
 ghost use Rattle.chart.specs.Pad.{pad};
