@@ -68,8 +68,9 @@ pub pad_next : {A B : Type 0} (filler : B) (size : ℕ) (f : A → B) (l : List 
     → length l ≤ size → places ≡ pad filler size (map f (take i l)) → e ≡ f (get_or l i d)
     → set places i e ≡ pad filler size (map f (take (i + 1) l))
 pad_next filler size f l i d more few front is =
-    let count : i ≡ length (map f (take i l)) = sym (length-map (take i l) f ∙ length-take-le i l (omega arith)) in
-    rw (is, front, add-one, take-suc l i d more, map-append) (pad_snoc filler size (map f (take i l)) (f (get_or l i d)) i count (omega arith))
+    let counted : i ≡ length (map f (take i l)) = sym (length-map (take i l) f ∙ length-take-le i l (omega arith)) in
+    rw (is, front, add-one, take-suc l i d more, map-append)
+    (pad_snoc filler size (map f (take i l)) (f (get_or l i d)) i counted (omega arith))
 
 -- the first i of the first n are the first i of all
 pub take_fewer {ℓ} : {A : Type ℓ} (i n : ℕ) (l : List A) → i ≤ n → take i (take n l) ≡ take i l

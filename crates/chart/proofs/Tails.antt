@@ -1,4 +1,5 @@
--- Laws of the search for a renewal's tail: one try (`found`, `not_found`), and its end (`none_found`).
+-- Laws of a renewal's tail: the end of base and series in the places of a base (`ends_copied`), one try (`found`, `not_found`), and the
+-- end of the search (`none_found`).
 use mathlib.Core.Path.{◌≡◌, sym, ◌∙◌}
 use mathlib.Core.List.{List, ◌++◌}
 use Prim.Native.Nat.{ℕ, ◌+◌, ◌-◌, ◌<◌, ◌≤◌, min}

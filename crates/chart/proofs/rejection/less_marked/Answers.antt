@@ -8,13 +8,16 @@ loop-i-init c = record { less = refl; removable = rw (marked_front c.args.n c.ar
 
 pub without_word-less-requires : goal.without_word-less-requires
 without_word-less-requires c =
-    let marks : length (take c.args.n c.args.words) ≤ length c.args.marks = omega (arith, length-take c.args.n c.args.words, c.requires.few) in
+    let words = length-take c.args.n c.args.words in
+    let marks : length (take c.args.n c.args.words) ≤ length c.args.marks = omega (arith, c.requires.few) in
     search (rules, can_take c.loop-i-test.true marks c.loop-i.invariant)
 
 pub loop-i-preserved : goal.loop-i-preserved
 loop-i-preserved c =
-    let marks : length (take c.args.n c.args.words) ≤ length c.args.marks = omega (arith, length-take c.args.n c.args.words, c.requires.few) in
-    search (rules, turn_taken c.loop-i-test.true marks c.loop-i.invariant, turn_not_taken c.loop-i-test.true marks c.loop-i.invariant)
+    let words = length-take c.args.n c.args.words in
+    let marks : length (take c.args.n c.args.words) ≤ length c.args.marks = omega (arith, c.requires.few) in
+    let more = c.loop-i-test.true in
+    search (rules, turn_taken more marks c.loop-i.invariant, turn_not_taken more marks c.loop-i.invariant)
 
 pub returns : goal.returns
 returns c = rw (marked_front c.args.n c.args.marks c.args.words) (all_taken (omega arith) c.loop-i.invariant)

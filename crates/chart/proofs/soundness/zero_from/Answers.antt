@@ -22,5 +22,5 @@ pub returns-else-n-places : goal.returns-else-n-places
 unfolding unused_hold_zero is_zero
 returns-else-n-places c =
     let unused = drop c.args.n c.args.places.now in
-    all_from_yields_List is_zero _ _ c.all.result c.all.ensures.ran (YieldsList-from_slice unused (c.iter.ensures.rest ∙ take_rest c.args.places.now c.args.n))
-    (λ x b q k. search (rules, tests)) ∙ all_is is_zero unused
+    let yields = YieldsList-from_slice unused (c.iter.ensures.rest ∙ take_rest c.args.places.now c.args.n) in
+    all_from_yields_List is_zero _ _ c.all.result c.all.ensures.ran yields (λ x b q k. search (rules, tests)) ∙ all_is is_zero unused

@@ -11,26 +11,25 @@ loop-k-init c = refl
 pub returns-then-left-ge-BASE_WANTED : goal.returns-then-left-ge-BASE_WANTED
 returns-then-left-ge-BASE_WANTED c =
     let a = c.args in
-    found
-    (tried a.kind a.base.now a.series.now c.loop-k.k (omega arith) (omega arith) c.last_of_both.ensures c.reject-r.ensures c.loop-k.invariant)
-    c.if-left-ge-BASE_WANTED.true
+    let try = tried a.kind a.base.now a.series.now c.loop-k.k (omega arith) (omega arith) c.last_of_both.ensures c.reject-r.ensures in
+    found (try c.loop-k.invariant) c.if-left-ge-BASE_WANTED.true
 
 pub loop-k-preserved : goal.loop-k-preserved
 loop-k-preserved c =
     let a = c.args in
-    not_found
-    (tried a.kind a.base.now a.series.now c.loop-k.k (omega arith) (omega arith) c.last_of_both.ensures c.reject-r.ensures c.loop-k.invariant)
-    c.if-left-ge-BASE_WANTED.false
+    let try = tried a.kind a.base.now a.series.now c.loop-k.k (omega arith) (omega arith) c.last_of_both.ensures c.reject-r.ensures in
+    not_found (try c.loop-k.invariant) c.if-left-ge-BASE_WANTED.false
 
+-- the range has no length left to try: none at all, or the last of it was tried
 pub returns : goal.returns
 returns c =
     let a = c.args in
     let words = length-append a.base.now a.series.now in
+    let ends = none_found a.kind (a.base.now ++ a.series.now) in
     elim c.loop-k-test.branch [
-      | goal.else-loop-k-test w ↦
-          none_found a.kind (a.base.now ++ a.series.now) c.loop-k.k c.no_tail.result (omega arith) c.loop-k.invariant c.no_tail.ensures
+      | goal.else-loop-k-test w ↦ ends c.loop-k.k c.no_tail.result (omega arith) c.loop-k.invariant c.no_tail.ensures
       | goal.then-loop-k-test+else-left-ge-BASE_WANTED+else-k-k-end w ↦
-          let t = tried a.kind a.base.now a.series.now c.loop-k.k (omega arith) (omega arith) w.last_of_both.ensures w.reject-r.ensures c.loop-k.invariant in
-          none_found a.kind (a.base.now ++ a.series.now) (c.loop-k.k + 1) c.no_tail.result (omega arith)
-          (not_found t w.if-left-ge-BASE_WANTED.false) c.no_tail.ensures
+          let try = tried a.kind a.base.now a.series.now c.loop-k.k (omega arith) (omega arith) w.last_of_both.ensures w.reject-r.ensures in
+          let next = not_found (try c.loop-k.invariant) w.if-left-ge-BASE_WANTED.false in
+          ends (c.loop-k.k + 1) c.no_tail.result (omega arith) next c.no_tail.ensures
     ]
