@@ -1,51 +1,51 @@
--- The first field of a text: blanks before it do not count (`fields_after_blanks`), and a run of other bytes that ends at a blank or
--- with the text is a field (`fields_of_run`). Joined, they are `first_field`.
+-- The first field of a text: blanks before it do not count (`fields_after_blanks`), it ends at the first blank after it or with the text
+-- (`field_end`), and a run of other bytes that ends so is a field (`fields_of_run`). Joined, they are `first_field`.
 use mathlib.Core.Path.{◌≡◌, refl, sym, ap, ◌∙◌}
-use mathlib.Core.Bool.{true, false, false≢true}
+use mathlib.Core.Bool.{Bool, true, false, not, false≢true}
 use mathlib.Core.List.{List, [], ◌∷◌}
 use Prim.Native.Nat.{ℕ, zero, suc, ◌+◌, ◌-◌, ◌<◌, ◌≤◌}
 use native.Mathlib.Omega.{arith}
 use lib.ListN.{length, take, drop, get_or, length-drop, drop_of_length-le}
-use lib.Seq.{get_or-drop, drop-drop}
-use borrow.Author.Tests.{lt-ltb, le-ltb}
-use borrow.Author.Count.{below_more}
+use lib.Seq.{get_or-drop, drop-drop, take_all}
+use lib.Dec.{ltb}
+use borrow.Author.Tests.{lt-ltb, le-ltb, ltb-false}
+use Rattle.std.specs.List.{position, position_or_len}
+use Rattle.std.specs.Prelude.{Option}
+use Rattle.std.specs.Option.{unwrap_or}
+use Rattle.std.proofs.lemmas.List.Sums.{fails_before_first, passes_at_first, prefix_len-le-length}
 use Rattle.rules.proofs.Integers.{by_order}
+use Rattle.rules.proofs.Booleans.{by_test}
 use Rattle.parsing.specs.Fields.{is_blank, in_front, fields_of, between, IsFirstField, AfterBlanks, AfterField}
 
--- ---- what a loop over the text has seen
+-- ---- the first blank
 
-pub record BlanksUpTo (text : List ℕ) (i : ℕ) : Type 0 where
-  pub within : i ≤ length text
-  pub blank : (k : ℕ) → k < i → is_blank (get_or text k 0) ≡ true
+-- the place of the first byte that passes a test, or the end of the bytes
+or_end : (test : ℕ → Bool) (bytes : List ℕ) {r : Option ℕ} → r ≡ position test bytes
+    → unwrap_or r (length bytes) ≡ position_or_len test bytes
+or_end test bytes e =
+    by_test (ltb (position_or_len test bytes) (length bytes))
+    (λ t. rw (e, t))
+    (λ t. rw (e, t) (omega (arith, ltb-false _ _ t, prefix_len-le-length (λ b. not (test b)) bytes)))
 
-pub record FullUpTo (text : List ℕ) (start i : ℕ) : Type 0 where
-  pub ordered : start ≤ i
-  pub within : i ≤ length text
-  pub full : (k : ℕ) → start ≤ k → k < i → is_blank (get_or text k 0) ≡ false
-
-pub no_blanks_yet : (text : List ℕ) → BlanksUpTo text 0
-no_blanks_yet text = record { within = omega arith; blank = λ k h. absurd (omega arith) }
-
-pub one_blank_more : {text : List ℕ} {i : ℕ} → BlanksUpTo text i → i < length text → is_blank (get_or text i 0) ≡ true
-    → BlanksUpTo text (i + 1)
-one_blank_more {text} {i} so_far h e =
-    record { within = omega arith; blank = below_more (λ k. is_blank (get_or text k 0) ≡ true) i so_far.blank e }
-
-pub blanks_stop : {text : List ℕ} {i : ℕ} → BlanksUpTo text i → (i < length text → is_blank (get_or text i 0) ≡ false) → AfterBlanks text i
-blanks_stop so_far stops = record { within = so_far.within; blank = so_far.blank; stops = stops }
-
-pub none_full_yet : (text : List ℕ) (start : ℕ) → start ≤ length text → FullUpTo text start start
-none_full_yet text start h = record { ordered = omega arith; within = h; full = λ k low high. absurd (omega arith) }
-
-pub one_full_more : {text : List ℕ} {start i : ℕ} → FullUpTo text start i → i < length text → is_blank (get_or text i 0) ≡ false
-    → FullUpTo text start (i + 1)
-one_full_more {text} {start} {i} so_far h e =
-    let more = below_more (λ k. start ≤ k → is_blank (get_or text k 0) ≡ false) i (λ k high low. so_far.full k low high) (λ low. e) in
-    record { ordered = omega (arith, so_far.ordered); within = omega arith; full = λ k low high. more k high low }
-
-pub field_stops : {text : List ℕ} {start i : ℕ} → FullUpTo text start i → (i < length text → is_blank (get_or text i 0) ≡ true)
-    → AfterField text start i
-field_stops so_far stops = record { ordered = so_far.ordered; within = so_far.within; full = so_far.full; stops = stops }
+-- the field from `start` on ends at the first blank, or with the text
+pub field_end : (text : List ℕ) (start : ℕ) {r : Option ℕ} → start ≤ length text
+    → let rest = take (length text - start) (drop start text) in
+    r ≡ position is_blank rest → AfterField text start (start + unwrap_or r (length rest))
+field_end text start {r} h e =
+    let rest = drop start text in
+    let n = position_or_len is_blank rest in
+    let whole : take (length text - start) rest ≡ rest = take_all _ _ (omega (arith, length-drop start text)) in
+    let at : (k : ℕ) → get_or rest k 0 ≡ get_or text (start + k) 0 = λ k. get_or-drop start text k 0 in
+    rw (whole, or_end is_blank rest (rw whole at e))
+    (record {
+      ordered = omega arith;
+      within = omega (arith, length-drop start text, prefix_len-le-length (λ b. not (is_blank b)) rest);
+      full =
+          λ k low high.
+          let place : start + (k - start) ≡ k = omega arith in
+          rw (← place, ← at (k - start)) (fails_before_first is_blank rest (k - start) 0 (omega arith));
+      stops = λ low. rw (← at n) (passes_at_first is_blank rest 0 (omega (arith, length-drop start text)));
+    })
 
 -- ---- blanks in front
 

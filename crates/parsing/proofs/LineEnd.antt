@@ -8,7 +8,7 @@ use native.Mathlib.Omega.{arith}
 use borrow.Author.Tests.{eq-eqb, ne_eqb}
 use lib.Dec.{eqb}
 use lib.ListN.{length, take, drop, get_or, drop_of_length-le}
-use lib.Seq.{split_at, take_all}
+use lib.Seq.{split_at, take_all, length-take-le}
 use Rattle.parsing.specs.Fields.{without_return, IsWithoutReturn}
 
 left_out : (x : List ℕ) (b : ℕ) → eqb b 13 ≡ true → without_return (x ++ (b ∷ [])) ≡ x
@@ -23,7 +23,7 @@ kept [] b e = rw e
 kept (a ∷ []) b e = ap (λ (l : List ℕ). a ∷ l) (kept [] b e)
 kept (a ∷ next ∷ x) b e = ap (λ (l : List ℕ). a ∷ l) (kept (next ∷ x) b e)
 
-pub no_bytes : (line : List ℕ) → length line ≡ 0 → IsWithoutReturn line 0
+pub no_bytes : (line : List ℕ) → length line ≡ 0 → IsWithoutReturn line (length line)
 unfolding without_return
 no_bytes [] e = record { within = omega arith; same = refl }
 no_bytes (b ∷ line) e = absurd (omega arith)
@@ -38,12 +38,12 @@ module _ (line : List ℕ) (some : 0 < length line) where
       let none : drop (suc last) line ≡ [] = drop_of_length-le line past in
       rw none at (split_at line last 0 (omega arith))
 
-  pub return_left_out : get_or line last 0 ≡ 13 → IsWithoutReturn line last
+  pub return_left_out : get_or line last 0 ≡ 13 → IsWithoutReturn line (length (take last line))
   return_left_out e =
-      record {
+      rw (length-take-le last line (omega arith)) (record {
         within = omega arith;
         same = sym (ap without_return parted ∙ left_out (take last line) (get_or line last 0) (eq-eqb _ _ e));
-      }
+      })
 
   pub no_return : (get_or line last 0 ≡ 13 → ⊥) → IsWithoutReturn line (length line)
   no_return h =

@@ -23,46 +23,26 @@ pub fn first_field(text: &[u8]) -> Field
 pub fn without_return(line: &[u8]) -> usize
     ensures { IsWithoutReturn line.now result }
 {
-    let n = line.len();
-    if n == 0 {
-        return 0;
+    match line {
+        [front @ .., b'\r'] => front.len(),
+        _ => line.len(),
     }
-    let last = n - 1;
-    if line[last] == b'\r' {
-        return last;
-    }
-    n
 }
 
-#[tactic(auto, using(crate::proofs::Tests::same_fails))]
+#[tactic(auto, using(crate::proofs::Tests::compared))]
 pub fn same_bytes(a: &[u8], b: &[u8]) -> bool
     ensures { result ≡ same_bytes a.now b.now }
 {
-    if a.len() != b.len() {
-        return false;
-    }
-    let mut i: usize = 0;
-    while i < a.len() {
-        if a[i] != b[i] {
-            return false;
-        }
-        i += 1;
-    }
-    true
+    a == b
 }
 
 // The place of the first byte that is not a blank, or the end of the text.
 fn after_blanks(text: &[u8]) -> usize
     ensures { AfterBlanks text.now result }
 {
-    let mut i: usize = 0;
-    while i < text.len() {
-        if !is_blank(text[i]) {
-            return i;
-        }
-        i += 1;
-    }
-    i
+    text.iter()
+        .position(|b| !is_blank(*b))
+        .unwrap_or(text.len())
 }
 
 // The place of the first blank from a byte on, or the end of the text.
@@ -70,19 +50,14 @@ fn after_field(text: &[u8], start: usize) -> usize
     requires { start ≤ length text.now }
     ensures { AfterField text.now start result }
 {
-    let mut i = start;
-    while i < text.len() {
-        if is_blank(text[i]) {
-            return i;
-        }
-        i += 1;
-    }
-    i
+    let rest = &text[start..];
+    start + rest.iter().position(|b| is_blank(*b)).unwrap_or(rest.len())
 }
 
 // A space or a tab.
+#[tactic(auto, unfolding(crate::specs::Fields::is_blank))]
 fn is_blank(b: u8) -> bool
     ensures { result ≡ is_blank b }
 {
-    (b == 32) | (b == 9)
+    matches!(b, b' ' | b'\t')
 }

@@ -1,7 +1,7 @@
 // Numbers in decimal: an optional minus sign, and one digit or more. What a number stands for as a kind, as a word and as a reading.
 ghost use Rattle.std.specs.Prelude.{◌≡◌, true, ◌+◌, ◌*◌, ◌-◌, ◌≤◌, min};
-ghost use Rattle.parsing.specs.Number.{is_digit, are_digits, value_of, value_most, signed_value, digits_number, number_in_field, number_says};
-ghost use Rattle.parsing.specs.Number.{number_within, kind_in_field, word_in_field, reading_in_field};
+ghost use Rattle.parsing.specs.Number.{is_digit, are_digits, value_of, value_most, signed_value, digits_number, number_in_field};
+ghost use Rattle.parsing.specs.Number.{number_says, number_within, kind_in_field, word_in_field, reading_in_field};
 
 // 2^63, and the least number that fits signed 64 bits with neither sign.
 const SIGN_BIT: u64 = 9223372036854775808;
@@ -20,13 +20,11 @@ pub enum Number {
 pub fn number_in_field(text: &[u8]) -> Number
     ensures { number_says result ≡ number_in_field text.now }
 {
-    if text.len() == 0 {
-        return Number::NoNumber;
+    match text {
+        [] => Number::NoNumber,
+        [b'-', digits @ ..] => digits_number(true, digits),
+        _ => digits_number(false, text),
     }
-    if text[0] == b'-' {
-        return digits_number(true, &text[1..]);
-    }
-    digits_number(false, text)
 }
 
 pub fn kind_in_field(n: Number) -> u16
@@ -73,48 +71,42 @@ fn digits_number(negative: bool, digits: &[u8]) -> Number
     signed_number(negative, value_of(digits))
 }
 
+#[tactic(auto, unfolding(crate::specs::Number::are_digits))]
 fn are_digits(text: &[u8]) -> bool
     ensures { result ≡ are_digits text.now }
 {
-    let mut i: usize = 0;
-    while i < text.len() {
-        if !is_digit(text[i]) {
-            return false;
-        }
-        i += 1;
-    }
-    0 < i
+    !text.is_empty() && text.iter().all(|b| is_digit(*b))
 }
 
+#[tactic(auto, unfolding(crate::specs::Number::is_digit))]
 pub fn is_digit(b: u8) -> bool
     ensures { result ≡ is_digit b }
 {
-    (48 <= b) & (b <= 57)
+    b.is_ascii_digit()
 }
 
 // The number that digits denote, but at most 2^63 + 1. Larger numbers do not fit signed 64 bits either, so this one stands for them all.
+#[tactic(auto, using(crate::proofs::Values::value_none, crate::proofs::Values::value_more))]
 fn value_of(digits: &[u8]) -> u64
     requires { are_digits digits.now ≡ true }
     ensures { result ≡ min (value_of digits.now) value_most }
 {
     let mut n: u64 = 0;
-    let mut i: usize = 0;
-    while i < digits.len() {
-        n = with_digit(n, digits[i]);
-        i += 1;
+    for d in digits {
+        n = with_digit(n, *d);
     }
     n
 }
 
 // n with one more digit after it, but at most 2^63 + 1.
+#[tactic(auto, using(crate::proofs::Tests::digit_range))]
 fn with_digit(n: u64, d: u8) -> u64
     requires { (is_digit d ≡ true) × (n ≤ value_most) }
     ensures { result ≡ min (n * 10 + (d - 48)) value_most }
 {
-    if 922337203685477580 < n {
-        return VALUE_MOST;
-    }
-    n * 10 + ((d - 48) as u64)
+    n.saturating_mul(10)
+        .saturating_add((d - b'0') as u64)
+        .min(VALUE_MOST)
 }
 
 // n with a sign. A number z below 0 is `!` of |z| − 1.

@@ -2,26 +2,18 @@
 ghost use Rattle.std.specs.Prelude.{◌≡◌, ◌≤◌, length};
 ghost use Rattle.parsing.specs.Text.{begins, ends, IsWithoutMark};
 
-use crate::fields::same_bytes;
-
+#[tactic(auto, using(crate::proofs::Tests::compared_back), unfolding(crate::specs::Text::begins))]
 pub fn begins_with(text: &[u8], front: &[u8]) -> bool
     ensures { result ≡ begins text.now front.now }
 {
-    let n = front.len();
-    if text.len() < n {
-        return false;
-    }
-    same_bytes(&text[..n], front)
+    text.starts_with(front)
 }
 
+#[tactic(auto, using(crate::proofs::Tests::compared_back), unfolding(crate::specs::Text::ends))]
 pub fn ends_with(text: &[u8], end: &[u8]) -> bool
     ensures { result ≡ ends text.now end.now }
 {
-    if text.len() < end.len() {
-        return false;
-    }
-    let at = text.len() - end.len();
-    same_bytes(&text[at..], end)
+    text.ends_with(end)
 }
 
 // How many bytes at the front of a line are a byte order mark: 3 or 0.

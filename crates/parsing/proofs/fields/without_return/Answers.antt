@@ -3,11 +3,11 @@ use native.Mathlib.Omega.{arith}
 use Rattle.parsing.proofs.LineEnd.{no_bytes, return_left_out, no_return}
 use Rattle.parsing.proofs.fields.without_return.Goals as goal
 
-pub returns-then-n-eq0 : goal.returns-then-n-eq0
-returns-then-n-eq0 c = no_bytes _ c.if-n-eq0.true
+pub returns-in-13 : goal.returns-in-13
+returns-in-13 c = return_left_out _ c.in-13.len_at_least (omega arith)
 
-pub returns-then-line-last-eq13 : goal.returns-then-line-last-eq13
-returns-then-line-last-eq13 c = return_left_out _ (omega arith) c.if-line-last-eq13.true
+pub returns-in_default : goal.returns-in_default
+returns-in_default c = no_bytes _ (omega arith)
 
-pub returns : goal.returns
-returns c = no_return _ (omega arith) c.if-line-last-eq13.false
+pub returns-in_default-2 : goal.returns-in_default-2
+returns-in_default-2 c = no_return _ c.in_default.len_at_least (λ e. omega arith)
