@@ -105,9 +105,9 @@ module _ (table : List ℕ) (i : ℕ) where
       let is = rw less at is in
       rw (add-one, drop-cons table i 0 more, is)
 
-  pub after_end : (left : ℕ) → length table ≤ i → drop i table ≡ after_texts (drop i table) left
+  pub after_end : (left : ℕ) → length table ≤ i → drop (length table) table ≡ after_texts (drop i table) left
   unfolding after_texts
-  after_end left end = rw (drop_all i table end)
+  after_end left end = rw (drop_all i table end) (drop_all (length table) table (omega arith))
 
   pub first_next : i < length table → (get_or table i 0 ≡ line_feed → ⊥)
       → first_text (drop i table) ≡ get_or table i 0 ∷ first_text (drop (i + 1) table)

@@ -10,10 +10,8 @@ pub fn put_hex(out: &mut [u8], at: usize, bytes: &[u8]) -> usize
     ensures { Puts out.old at (hex_of bytes.now) out.new result }
 {
     let mut next = at;
-    let mut i: usize = 0;
-    while i < bytes.len() {
-        next = put_hex_byte(out, next, bytes[i]);
-        i += 1;
+    for b in bytes {
+        next = put_hex_byte(out, next, *b);
     }
     next
 }
@@ -25,9 +23,10 @@ fn put_hex_byte(out: &mut [u8], at: usize, b: u8) -> usize
     put_byte(out, next, hex_digit(b % 16))
 }
 
+#[tactic(auto, unfolding(crate::specs::Hex::hex_digit))]
 fn hex_digit(d: u8) -> u8
     requires { d < 16 }
     ensures { result ≡ hex_digit d }
 {
-    if d < 10 { 48 + d } else { 87 + d }
+    if d < 10 { b'0' + d } else { b'a' + (d - 10) }
 }

@@ -5,7 +5,7 @@ ghost use Rattle.printing.specs.Decimal.{space_code, digit, decimal, signed_deci
 ghost use Rattle.printing.specs.Decimal.{sign_text, last_digits, parts_decimal};
 
 use crate::put_byte;
-use limits::{LINE_PARTS, magnitude};
+use limits::LINE_PARTS;
 
 // 1/256 is 0.00390625.
 const DECIMALS_OF_PART: u64 = 390625;
@@ -25,7 +25,7 @@ pub fn put_signed(out: &mut [u8], at: usize, z: i64) -> usize
     ensures { Puts out.old at (signed_decimal z) out.new result }
 {
     let next = put_sign(out, at, z);
-    put_decimal(out, next, magnitude(z))
+    put_decimal(out, next, z.unsigned_abs())
 }
 
 // Each word after a space.
@@ -33,10 +33,8 @@ pub fn put_words(out: &mut [u8], at: usize, words: &[i16]) -> usize
     ensures { Puts out.old at (spaced_words words.now) out.new result }
 {
     let mut next = at;
-    let mut i: usize = 0;
-    while i < words.len() {
-        next = put_word(out, next, words[i]);
-        i += 1;
+    for w in words {
+        next = put_word(out, next, *w);
     }
     next
 }
@@ -46,7 +44,7 @@ pub fn put_parts(out: &mut [u8], at: usize, k: i64) -> usize
     ensures { Puts out.old at (parts_decimal k) out.new result }
 {
     let after_sign = put_sign(out, at, k);
-    let n = magnitude(k);
+    let n = k.unsigned_abs();
     let after_whole = put_decimal(out, after_sign, n / (LINE_PARTS as u64));
     let after_point = put_byte(out, after_whole, b'.');
     put_last_digits(
@@ -72,7 +70,7 @@ fn put_digit(out: &mut [u8], at: usize, d: u64) -> usize
     requires { d < 10 }
     ensures { Puts out.old at (digit d ∷ []) out.new result }
 {
-    put_byte(out, at, 48 + (d as u8))
+    put_byte(out, at, b'0' + (d as u8))
 }
 
 fn put_word(out: &mut [u8], at: usize, w: i16) -> usize

@@ -22,15 +22,13 @@ fn text_start(table: &[u8], number: usize) -> usize
     ensures { drop result table.now ≡ after_texts table.now number }
 {
     let mut left = number;
-    let mut i: usize = 0;
-    while i < table.len() {
+    for (i, b) in table.iter().enumerate() {
         if left == 0 {
             return i;
         }
-        left = texts_left(left, table[i]);
-        i += 1;
+        left = texts_left(left, *b);
     }
-    i
+    table.len()
 }
 
 // How many texts are left after a byte.
@@ -46,13 +44,11 @@ fn put_first_text(out: &mut [u8], table: &[u8], start: usize) -> usize
     ensures { Puts out.old 0 (first_text (drop start table.now)) out.new result }
 {
     let mut next: usize = 0;
-    let mut i = start;
-    while i < table.len() {
+    for i in start..table.len() {
         if table[i] == b'\n' {
             return next;
         }
         next = put_byte(out, next, table[i]);
-        i += 1;
     }
     next
 }

@@ -1,8 +1,7 @@
--- `printing::put_text` meets its contract. The loop's invariant: the first i bytes are put.
+-- `printing::put_text` meets its contract.
 use mathlib.Core.Path.{refl}
 use mathlib.Core.List.{List}
 use Prim.Native.Nat.{ℕ}
-use native.Mathlib.Omega.{arith}
 use Rattle.printing.proofs.Putting.{puts_none, puts_next, puts_all, puts_length}
 use Rattle.printing.proofs.put_text.Goals as goal
 
@@ -10,17 +9,15 @@ use Rattle.printing.proofs.put_text.Goals as goal
 abbrev same : List ℕ → List ℕ
 same x = x
 
-pub loop-i-init : goal.loop-i-init
-loop-i-init c = let a = c.args in (omega arith, puts_none a.out.now a.at)
+pub loop-b-init : goal.loop-b-init
+loop-b-init c = puts_none c.args.out.now c.args.at
 
-pub loop-i-preserved : goal.loop-i-preserved
-loop-i-preserved c =
-    let text = c.args.text.now in
-    (omega arith, puts_next same text c.loop-i.i 0 (λ x y. refl) (omega arith) c.loop-i.invariant.1 c.put_byte-next.ensures)
+pub loop-b-preserved : goal.loop-b-preserved
+loop-b-preserved c =
+    puts_next same c.args.text.now c.loop-b.b-index 0 (λ x y. refl) c.loop-b-test.true c.loop-b.invariant c.put_byte-next.ensures
 
 pub shape_of-out : goal.shape_of-out
-shape_of-out c = puts_length c.loop-i.invariant.1
+shape_of-out c = puts_length c.loop-b.invariant
 
 pub returns : goal.returns
-returns c =
-    puts_all same c.args.text.now c.loop-i.i c.loop-i-test.false c.loop-i.invariant.1
+returns c = puts_all same c.args.text.now c.loop-b.b-index c.loop-b-test.false c.loop-b.invariant

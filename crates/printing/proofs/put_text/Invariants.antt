@@ -1,11 +1,7 @@
--- `printing::put_text` meets its contract. The loop's invariant: the first i bytes are put.
-use Prim.Native.Nat.{◌-◌, ◌≤◌}
-use lib.ListN.{length, take}
+-- `printing::put_text` meets its contract. The loop's invariant: the bytes before this one are put.
+use lib.ListN.{take}
 use Rattle.printing.specs.Output.{Puts}
 use Rattle.printing.proofs.put_text.Given as goal
 
-abbrev pub invariant-loop-i : goal.invariant-loop-i
-invariant-loop-i l = (l.i ≤ length l.text) × Puts l.initial.out l.at (take l.i l.text) l.out l.next
-
-abbrev pub decreases-loop-i : goal.decreases-loop-i
-decreases-loop-i l = length l.text - l.i
+abbrev pub invariant-loop-b : goal.invariant-loop-b
+invariant-loop-b l = Puts l.initial.out l.at (take l.b-index l.text) l.out l.next

@@ -7,5 +7,5 @@ use Rattle.printing.proofs.numbers.put_parts.Goals as goal
 pub returns : goal.returns
 unfolding parts_decimal parts_natural
 returns c =
-    puts_signed c.args.k c.ranges.k parts_natural c.magnitude-n.ensures c.put_sign-after_sign.ensures
+    puts_signed c.args.k c.ranges.k parts_natural c.unsigned_abs-n.ensures.value c.put_sign-after_sign.ensures
     (puts_then c.put_decimal-after_whole.ensures (puts_then c.put_byte-after_point.ensures c.put_last_digits.ensures))

@@ -6,5 +6,5 @@ use Rattle.printing.proofs.numbers.put_signed.Goals as goal
 pub returns : goal.returns
 unfolding signed_decimal
 returns c =
-    puts_signed c.args.z c.ranges.z decimal c.magnitude.ensures c.put_sign-next.ensures
+    puts_signed c.args.z c.ranges.z decimal c.unsigned_abs.ensures.value c.put_sign-next.ensures
     c.put_decimal.ensures
