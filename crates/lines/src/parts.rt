@@ -58,6 +58,7 @@ fn sum_parts(s: Sums) -> i64
 // The greatest whole number whose square is at most q, by Newton's method. The first guess comes from the number of binary digits of q. It
 // is a power of two that is not below the root. A guess is above the root if q / guess is below the guess. The next guess is then the mean
 // of the two, which is less and not below the root. The code never squares a guess, because the square can be too large for 64 bits.
+// Not by `isqrt`: it halves an interval 32 times, which takes twice as long or more.
 fn square_root(q: u64) -> u32
     ensures { result ≡ square_root q }
 {
@@ -77,10 +78,11 @@ fn quotient_up(z: i64, n: u64) -> i64
     requires { (unsigned_abs z < 2 ^ 63) × (1 ≤ n) }
     ensures { result ≡ rules.quotient_up z n }
 {
-    0 - quotient_down(0 - z, n)
+    -quotient_down(-z, n)
 }
 
-// z / n rounded down. For a negative z, `!z` is |z| − 1, and `!` of (|z| − 1) / n is z / n rounded down.
+// z / n rounded down. For a negative z, `!z` is |z| − 1, and `!` of (|z| − 1) / n is z / n rounded down. Not by `div_euclid`: n may be 2^63
+// or more, which no i64 holds.
 fn quotient_down(z: i64, n: u64) -> i64
     requires { 1 ≤ n }
     ensures { result ≡ rules.quotient_down z n }
