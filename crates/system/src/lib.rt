@@ -6,23 +6,14 @@
 
 mod path;
 
-ghost use Rattle.std.specs.Prelude.{◌≡◌, ◌≤◌, true, false, length, IfOk, IsErr};
+ghost use Rattle.std.specs.Prelude.{◌≡◌, ◌≤◌, false, length, IsErr};
 
-use path::{PATH_MAX, as_text, ended, text_before_0};
+use path::{as_text, ended, ended_whole, text_before_0};
 use std::fs::{File, Metadata, OpenOptions};
 use std::os::fd::{AsFd, IntoRawFd};
 use std::os::unix::fs::MetadataExt;
 use std::time::Duration;
 use std::{fs, io, thread};
-
-// What `access` asks: whether there is a file, and whether this user may run, write or read it.
-pub const F_OK: i32 = 0;
-
-pub const X_OK: i32 = 1;
-
-pub const W_OK: i32 = 2;
-
-pub const R_OK: i32 = 4;
 
 // How long a pause is, in nanoseconds.
 const PAUSE: u64 = 5000000;
@@ -30,32 +21,18 @@ const PAUSE: u64 = 5000000;
 // The permissions are the low twelve bits of a mode. The other bits say what kind of file it is.
 const PERMISSIONS: u32 = 0o10000;
 
-// The bits of a mode by which its owner, its group or others may run a file.
-const RUN: u32 = 0o111;
-
-// The system's numbers of errors.
-const NOT_PERMITTED: i32 = 13;
-
-const INVALID: i32 = 22;
-
-const NAME_TOO_LONG: i32 = 36;
-
-// The permissions, owner and group of an open file. If they are not known, the numbers are 0.
+// The permissions, owner and group of a file.
 #[derive(Clone, Copy)]
 pub struct Permissions {
-    pub known: bool,
     pub mode: u32,
     pub owner: u32,
     pub group: u32,
 }
 
-// Of an open file, whose permissions are then known.
-pub fn permissions_of(file: &File) -> io::Result<Permissions>
-    ensures { IfOk result (λ permissions. permissions.known ≡ true) }
-{
+// Of an open file.
+pub fn permissions_of(file: &File) -> io::Result<Permissions> {
     let status = file.metadata()?;
     Ok(Permissions {
-        known: true,
         mode: status.mode() % PERMISSIONS,
         owner: status.uid(),
         group: status.gid(),
@@ -75,35 +52,23 @@ pub fn pause(rt: HostRuntime) {
     thread::sleep(&rt, Duration::from_nanos(PAUSE));
 }
 
-// Whether this user may do with a file what `mode` asks. If not, the error is the reason.
-pub fn access(rt: HostRuntime, path: &[u8], mode: i32) -> io::Result<()>
-    ensures { 4096 ≤ length path.now → IsErr result }
+// Whether the path leads to a file, of any kind.
+pub fn exists(rt: HostRuntime, path: &[u8]) -> bool
+    ensures { 4096 ≤ length path.now → result ≡ false }
 {
-    if path.len() >= PATH_MAX {
-        return Err(io::Error::from_raw_os_error(NAME_TOO_LONG));
-    }
-    let path = ended(path);
-    let name = text_before_0(&path)?;
-    let status = fs::metadata(&rt, name)?;
-    permits(rt, name, &status, mode)
+    status(rt, path).is_ok()
 }
 
-// Tries to open a regular file. Any other is not opened, because opening a pipe waits, and it counts as permitted.
-fn permits(rt: HostRuntime, name: &str, status: &Metadata, mode: i32) -> io::Result<()> {
-    if mode & !(R_OK | W_OK | X_OK) != 0 {
-        return Err(io::Error::from_raw_os_error(INVALID));
-    }
-    if !status.is_file() {
-        return Ok(());
-    }
-    if mode & R_OK != 0 {
-        File::open(&rt, name)?;
-    }
-    if mode & W_OK != 0 {
-        OpenOptions::new().write(true).open(&rt, name)?;
-    }
-    if mode & X_OK != 0 && status.mode() & RUN == 0 {
-        return Err(io::Error::from_raw_os_error(NOT_PERMITTED));
+// Whether this user may write a file. If not, the error is the reason. Tries to open a regular file. Any other is not opened, because
+// opening a pipe waits, and it counts as permitted.
+pub fn may_write(rt: HostRuntime, path: &[u8]) -> io::Result<()>
+    ensures { 4096 ≤ length path.now → IsErr result }
+{
+    if status(rt, path)?.is_file() {
+        let path = ended(path);
+        OpenOptions::new()
+            .write(true)
+            .open(&rt, text_before_0(&path)?)?;
     }
     Ok(())
 }
@@ -112,17 +77,22 @@ fn permits(rt: HostRuntime, name: &str, status: &Metadata, mode: i32) -> io::Res
 pub fn is_link(rt: HostRuntime, path: &[u8]) -> bool
     ensures { 4096 ≤ length path.now → result ≡ false }
 {
-    if path.len() >= PATH_MAX {
-        return false;
-    }
-    match link_status(rt, path) {
-        Ok(status) => status.is_symlink(),
-        Err(_) => false,
-    }
+    link_status(rt, path).is_ok_and(|status| status.is_symlink())
 }
 
-fn link_status(rt: HostRuntime, path: &[u8]) -> io::Result<Metadata> {
-    let path = ended(path);
+// What the system says of the file that the path leads to.
+fn status(rt: HostRuntime, path: &[u8]) -> io::Result<Metadata>
+    ensures { 4096 ≤ length path.now → IsErr result }
+{
+    let path = ended_whole(path)?;
+    fs::metadata(&rt, text_before_0(&path)?)
+}
+
+// .. and of a link itself.
+fn link_status(rt: HostRuntime, path: &[u8]) -> io::Result<Metadata>
+    ensures { 4096 ≤ length path.now → IsErr result }
+{
+    let path = ended_whole(path)?;
     fs::symlink_metadata(&rt, text_before_0(&path)?)
 }
 

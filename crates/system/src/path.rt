@@ -1,5 +1,5 @@
 // A path as the system reads it: bytes up to a 0.
-ghost use Rattle.std.specs.Prelude.{◌≤◌, length};
+ghost use Rattle.std.specs.Prelude.{◌≤◌, length, IfOk, IsErr};
 ghost use Rattle.system.specs.Path.{Ended};
 
 use std::{io, str};
@@ -9,7 +9,9 @@ pub const PATH_MAX: usize = 4096;
 
 const LAST: usize = PATH_MAX - 1;
 
-// The system's number of an error: a byte sequence is not text.
+// The system's numbers of errors: a path is too long, and a byte sequence is not text.
+const NAME_TOO_LONG: i32 = 36;
+
 const NOT_TEXT: i32 = 84;
 
 // The path's first 4,095 bytes, or all of them if it is shorter, and then zeros.
@@ -17,16 +19,21 @@ pub fn ended(path: &[u8]) -> [u8; PATH_MAX]
     ensures { Ended result }
 {
     let mut ended = [0u8; PATH_MAX];
-    let mut i = 0;
-    while i < path.len() {
-        if i >= LAST {
-            break;
-        }
-        ended[i] = path[i];
-        i += 1;
-    }
+    let n = path.len().min(LAST);
+    ended[..n].copy_from_slice(&path[..n]);
     ended[LAST] = 0;
     ended
+}
+
+// .. of a path that is whole. One of 4,096 bytes or more is an error: cut short it would name another file.
+pub fn ended_whole(path: &[u8]) -> io::Result<[u8; PATH_MAX]>
+    ensures ended { IfOk result Ended }
+    ensures whole { 4096 ≤ length path.now → IsErr result }
+{
+    if path.len() >= PATH_MAX {
+        return Err(io::Error::from_raw_os_error(NAME_TOO_LONG));
+    }
+    Ok(ended(path))
 }
 
 // The bytes up to the first 0, as text. `std` takes no other path.
@@ -42,17 +49,10 @@ fn size_before_0(ended: &[u8; PATH_MAX]) -> usize
     requires { Ended ended.now }
     ensures { result ≤ 4095 }
 {
-    let mut n = 0;
-    while ended[n] != 0 {
-        n += 1;
-    }
-    n
+    ended.iter().position(|byte| *byte == 0).unwrap_or(LAST)
 }
 
 // A path that is not UTF-8 is an error.
 pub fn as_text(path: &[u8]) -> io::Result<&str> {
-    match str::from_utf8(path) {
-        Ok(text) => Ok(text),
-        Err(_) => Err(io::Error::from_raw_os_error(NOT_TEXT)),
-    }
+    str::from_utf8(path).map_err(|_| io::Error::from_raw_os_error(NOT_TEXT))
 }
