@@ -6,10 +6,12 @@ use mathlib.Core.Bool.{Bool, true, false, not, false≢true}
 use mathlib.Core.List.{List, [], ◌∷◌, ◌++◌, append_assoc, append-nil}
 use Prim.Native.Nat.{ℕ, suc, ◌+◌, ◌-◌, ◌<◌, ◌≤◌, zero-le}
 use native.Mathlib.Omega.{arith}
-use Rattle.std.proofs.Common.{eq-eqb}
-use Rattle.std.proofs.lemmas.List.{drop_more}
-use Rattle.std.proofs.Math.ListN.{drop_of_length-le}
-use borrow.Author.Tests.{ne_eqb, lt-ltb, le-ltb, eqb-true, not-true}
+use Rattle.std.proofs.Common.{one-add}
+use Rattle.std.proofs.lemmas.List.Recursion.{is_position_or_len}
+use Rattle.std.proofs.lemmas.List.Sums.{prefix_len-le-length}
+use Rattle.std.specs.Prelude.{Option, position, unwrap_or}
+use Rattle.std.specs.List.{position_or_len}
+use borrow.Author.Tests.{lt-ltb, le-ltb, eqb-true, ltb-false, not-true}
 use lib.Dec.{eqb, ltb}
 use lib.ListN.{length, take, drop, get_or, length-append, length-take, length-drop}
 use lib.Seq.{take_all, take-nil, take-suc, take-add, take_at, take-append-le}
@@ -26,10 +28,10 @@ use Rattle.outcomes.specs.Status.{holds_batch, status_of}
 use Rattle.printing.specs.Output.{Puts}
 use Rattle.printing.proofs.Putting.{puts_length, puts_cut}
 use Rattle.control_chart.specs.declared.input.Pending.{Pending}
-use Rattle.control_chart.specs.declared.input.AfterRead.{AfterRead}
+use Rattle.std.specs.declared.ops.ControlFlow.TheVariants.{Break}
 use Rattle.control_chart.specs.Input.{SoFar, so_far, at_start, ended_line, after_line, after_ended, with_part, with_byte, with_bytes, to_line_feed}
 use Rattle.control_chart.specs.Input.{unless_failed, at_end, line_room, HoldsInput, Follows, HasRoom, CanTake, IsAfter, EndsLine}
-use Rattle.control_chart.specs.Input.{Taken, Came, IsInputRead, IsEnd}
+use Rattle.control_chart.specs.Input.{Taken, Came, AfterRead, pending, more, IsInputRead, IsEnd}
 use Rattle.control_chart.proofs.Cutting.{cut_line}
 
 -- ---- bytes, one read after the other
@@ -58,6 +60,18 @@ module _ (x : ℕ) (xs : List ℕ) where
   unfolding to_line_feed
   feed_later t = rw t
 
+-- the place of the first byte that is a line feed, or the length of all bytes
+first_feed : (xs : List ℕ) → to_line_feed xs ≡ position_or_len (λ b. eqb b 10) xs
+unfolding to_line_feed
+first_feed = is_position_or_len to_line_feed (λ b. eqb b 10) refl (λ x xs. by_test (eqb x 10) (λ t. rw t) (λ t. rw (t, one-add)))
+
+pub feed_found_at : (xs : List ℕ) (place : Option ℕ) → place ≡ position (λ b. eqb b 10) xs → unwrap_or place (length xs) ≡ to_line_feed xs
+feed_found_at xs place e =
+    let k = position_or_len (λ b. eqb b 10) xs in
+    by_test (ltb k (length xs))
+    (λ t. rw (e, t) (sym (first_feed xs)))
+    (λ t. rw (e, t) (omega (arith, first_feed xs, ltb-false k (length xs) t, prefix_len-le-length (λ b. not (eqb b 10)) xs)))
+
 feed_found : (xs : List ℕ) → to_line_feed xs < length xs → get_or xs (to_line_feed xs) 0 ≡ 10
 unfolding to_line_feed
 feed_found [] h = absurd (omega arith)
@@ -65,25 +79,6 @@ feed_found (x ∷ xs) h =
     by_test (eqb x 10)
     (λ t. rw (feed_here x xs t) (eqb-true x 10 t))
     (λ t. rw (feed_later x xs t) (feed_found xs (omega (arith, feed_later x xs t))))
-
--- the search for a line feed, from a place on: it is there, it is not there, or the bytes have ended
-module _ (bytes : List ℕ) (end : ℕ) where
-  pub feed_at : end < length bytes → get_or bytes end 0 ≡ 10 → to_line_feed (drop end bytes) ≡ 0
-  feed_at h e = ap to_line_feed (drop_more bytes end 0 h) ∙ feed_here _ _ (eq-eqb _ _ e)
-
-  pub no_feed_at : end < length bytes → (get_or bytes end 0 ≡ 10 → ⊥)
-      → to_line_feed (drop end bytes) ≡ suc (to_line_feed (drop (end + 1) bytes))
-  no_feed_at h ne = ap to_line_feed (drop_more bytes end 0 h) ∙ feed_later _ _ (ne_eqb _ _ ne)
-
-  pub feed_none : length bytes ≤ end → to_line_feed (drop end bytes) ≡ 0
-  unfolding to_line_feed
-  feed_none h = ap to_line_feed (drop_of_length-le bytes h)
-
--- the search has come to a place, and has found no line feed before it
-pub record SearchedTo (bytes : List ℕ) (at end : ℕ) : Type 0 where
-  pub within : end ≤ length bytes
-  pub from : at ≤ end
-  pub same : at + to_line_feed (drop at bytes) ≡ end + to_line_feed (drop end bytes)
 
 -- the line goes on, and nothing else changes
 abbrev going_on : SoFar → List ℕ → SoFar
@@ -291,15 +286,15 @@ module _ (s : SoFar) (p : Pending) (buffer : List ℕ) (room : HasRoom p buffer)
 
 -- ---- one read
 
-pub read_came : {p : Pending} {before after bytes : List ℕ} (r : AfterRead) → Taken bytes p before r.pending after
-    → (r.more ≡ true → r.pending.told ≡ true) → IsInputRead p before r after
+pub read_came : {p : Pending} {before after bytes : List ℕ} (r : AfterRead) → Taken bytes p before (pending r) after
+    → (more r ≡ true → (pending r).told ≡ true) → IsInputRead p before r after
 read_came {bytes = bytes} r taken told =
     let keeps = taken.keeps in
     record {
       came =
           record {
             bytes = take taken.count bytes;
-            failed = not r.pending.told;
+            failed = not (pending r).told;
             within = keeps.within;
             follows = keeps.follows;
           };
@@ -308,7 +303,7 @@ read_came {bytes = bytes} r taken told =
     }
 
 pub read_failed : (p : Pending) (buffer : List ℕ) (status : ℕ) → status ≡ 3
-    → IsInputRead p buffer (record { more = false; pending = record { chart = p.chart; len = 0; status = status; told = true } }) buffer
+    → IsInputRead p buffer (Break (record { chart = p.chart; len = 0; status = status; told = true })) buffer
 read_failed p buffer status e =
     record {
       came = record { bytes = []; failed = true; within = zero-le; follows = λ s held. held_lost status e held };

@@ -11,7 +11,8 @@ use Rattle.commands.specs.Command.{Line, line_most, line_in}
 use Rattle.commands.specs.Reply.{chart_after_line, answer_to_line}
 use Rattle.outcomes.specs.Status.{status_of}
 use Rattle.control_chart.specs.declared.input.Pending.{Pending}
-use Rattle.control_chart.specs.declared.input.AfterRead.{AfterRead}
+use Rattle.std.specs.declared.ops.ControlFlow.{ControlFlow}
+use Rattle.std.specs.declared.ops.ControlFlow.TheVariants.{Continue, Break}
 
 pub record SoFar : Type 0 where
   pub chart : Chart
@@ -127,11 +128,23 @@ pub record Came (p : Pending) (before : List ℕ) (q : Pending) (after : List �
   pub within : q.len ≤ length after
   pub follows : (s : SoFar) → HoldsInput s p before → HoldsInput (unless_failed failed (with_bytes s bytes)) q after
 
+-- what is pending after a read: more is to be read, or this was the last
+abbrev pub AfterRead : Type 0
+AfterRead = ControlFlow Pending Pending
+
+abbrev pub pending : AfterRead → Pending
+pending (Continue p) = p
+pending (Break p) = p
+
+abbrev pub more : AfterRead → Bool
+more (Continue p) = true
+more (Break p) = false
+
 -- one read; if it is not the last, nothing has failed, and every answer was written
 pub record IsInputRead (p : Pending) (before : List ℕ) (r : AfterRead) (after : List ℕ) : Type 0 where
-  pub came : Came p before r.pending after
-  pub goes_on : r.more ≡ true → came.failed ≡ false
-  pub told : r.more ≡ true → r.pending.told ≡ true
+  pub came : Came p before (pending r) after
+  pub goes_on : more r ≡ true → came.failed ≡ false
+  pub told : more r ≡ true → (pending r).told ≡ true
 
 -- what the program holds at the end: s, but with status 3 if the last answer was not written
 pub record IsEnd (s : SoFar) (r : Pending) : Type 0 where

@@ -23,21 +23,16 @@ pub fn argument_count(rt: HostRuntime) -> usize {
 
 fn is_argument(rt: HostRuntime, i: usize) -> bool {
     let mut none = [0u8; 0];
-    match rt.arg(i, &mut none) {
-        Err(FillError::NotPresent) => false,
-        _ => true,
-    }
+    !matches!(rt.arg(i, &mut none), Err(FillError::NotPresent))
 }
 
 // Puts the arguments from `first` on into a line, with a blank between two. Answers the line's length.
 pub fn join_arguments(rt: HostRuntime, first: usize, count: usize, line: &mut [u8]) -> usize
     ensures { IsPrefixLen result line.new }
 {
-    let mut at: usize = 0;
-    let mut i = first;
-    while i < count {
+    let mut at = 0;
+    for i in first..count {
         at = put_argument(rt, i, line, at);
-        i += 1;
     }
     at
 }

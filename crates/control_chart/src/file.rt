@@ -42,10 +42,7 @@ pub fn command_on_file(rt: HostRuntime, path: &[u8], first: usize, count: usize)
 
 // Whether the path is a command's name, and there is no file of that name.
 fn is_command_alone(rt: HostRuntime, path: &[u8]) -> bool {
-    if is_name(path) {
-        return system::access(rt, path, system::F_OK).is_err();
-    }
-    false
+    is_name(path) && !system::exists(rt, path)
 }
 
 // ---- a command that only reads
@@ -53,10 +50,8 @@ fn is_command_alone(rt: HostRuntime, path: &[u8]) -> bool {
 fn look_at_file(rt: HostRuntime, path: &[u8], line: &[u8]) -> u8 {
     let mut held = [0u8; FILE_ROOM];
     match read_file(rt, path, &mut held) {
-        Ok(read) => {
-            let n = read.len;
-            say_look(rt, path, read.there, &held[..n], line)
-        }
+        Ok(Some(read)) => say_look(rt, path, true, &held[..read.len], line),
+        Ok(None) => say_look(rt, path, false, b"", line),
         Err(reason) => failure(rt, path, b"it cannot be read", reason),
     }
 }
@@ -135,14 +130,9 @@ fn change_file(rt: HostRuntime, path: &[u8], line: &[u8]) -> u8 {
 
 // Whether this user may write the file, or there is no file.
 fn may_be_written(rt: HostRuntime, path: &[u8]) -> Result<()> {
-    match system::access(rt, path, system::W_OK) {
-        Ok(()) => Ok(()),
-        Err(reason) => {
-            if reason.kind() == ErrorKind::NotFound {
-                return Ok(());
-            }
-            Err(reason)
-        }
+    match system::may_write(rt, path) {
+        Err(reason) if reason.kind() != ErrorKind::NotFound => Err(reason),
+        _ => Ok(()),
     }
 }
 
@@ -150,19 +140,17 @@ fn may_be_written(rt: HostRuntime, path: &[u8]) -> Result<()> {
 fn change_locked(rt: HostRuntime, path: &[u8], lock: &[u8], file: &File, line: &[u8]) -> u8 {
     let mut held = [0u8; FILE_ROOM];
     match read_file(rt, path, &mut held) {
-        Ok(read) => {
-            let n = read.len;
-            change_held(
-                rt,
-                path,
-                lock,
-                file,
-                read.permissions,
-                read.there,
-                &held[..n],
-                line,
-            )
-        }
+        Ok(Some(read)) => change_held(
+            rt,
+            path,
+            lock,
+            file,
+            Some(read.permissions),
+            true,
+            &held[..read.len],
+            line,
+        ),
+        Ok(None) => change_held(rt, path, lock, file, None, false, b"", line),
         Err(reason) => {
             failure(
                 rt,
@@ -181,7 +169,7 @@ fn change_held(
     path: &[u8],
     lock: &[u8],
     file: &File,
-    permissions: Permissions,
+    permissions: Option<Permissions>,
     there: bool,
     held: &[u8],
     line: &[u8],
@@ -209,7 +197,7 @@ fn keep(
     path: &[u8],
     lock: &[u8],
     file: &File,
-    permissions: Permissions,
+    permissions: Option<Permissions>,
     form: &[u8],
     reply: &[u8],
 ) -> u8

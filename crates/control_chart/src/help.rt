@@ -168,7 +168,9 @@ fn say_numbers(rt: HostRuntime) {
         b"3 spike      A is the spiked sample, B the unspiked one, C what was added\n\n",
     );
     say_part(rt, b"verdict V:\n");
-    say_meanings(rt, false, 0, VERDICTS);
+    for verdict in 0..VERDICTS {
+        say_verdict(rt, verdict);
+    }
     say_part(
         rt,
         b"Verdict 4 is for kinds 2 and 3. If several verdicts apply, the answer is the first of 1, 2, 4, 3.\n",
@@ -185,22 +187,27 @@ fn say_numbers(rt: HostRuntime) {
 
 fn say_refusals(rt: HostRuntime) {
     say_part(rt, b"refused N:\n");
-    say_meanings(rt, true, 1, NO_ROOM);
-    say_meaning(rt, true, TOO_FEW_STAND);
+    for refusal in 1..NO_ROOM {
+        say_refusal(rt, refusal);
+    }
+    say_refusal(rt, TOO_FEW_STAND);
     say_part(rt, b"\n");
 }
 
-// Says a line for each number from `first` to the one before `end`.
-fn say_meanings(rt: HostRuntime, refusals: bool, first: u32, end: u32) {
-    let mut number = first;
-    while number < end {
-        say_meaning(rt, refusals, number);
-        number += 1;
-    }
+fn say_verdict(rt: HostRuntime, verdict: u32) {
+    let mut meaning = [0u8; ROOM];
+    let length = put_verdict_meaning(&mut meaning, verdict);
+    say_meaning(rt, verdict, &meaning, length);
 }
 
-// Says a line: the number, two columns wide, and what it means, as a refusal or as a verdict.
-fn say_meaning(rt: HostRuntime, refusal: bool, number: u32) {
+fn say_refusal(rt: HostRuntime, refusal: u32) {
+    let mut meaning = [0u8; ROOM];
+    let length = put_refusal_meaning(&mut meaning, refusal);
+    say_meaning(rt, refusal, &meaning, length);
+}
+
+// Says a line: the number, two columns wide, and what it means.
+fn say_meaning(rt: HostRuntime, number: u32, meaning: &[u8], length: usize) {
     if number < 10 {
         say_part(rt, b" ");
     }
@@ -208,15 +215,6 @@ fn say_meaning(rt: HostRuntime, refusal: bool, number: u32) {
     let width = put_decimal(&mut digits, 0, number as u64);
     say_front(rt, &digits, width);
     say_part(rt, b"  ");
-    let mut meaning = [0u8; ROOM];
-    let length = put_meaning(refusal, &mut meaning, number);
-    say_front(rt, &meaning, length);
+    say_front(rt, meaning, length);
     say_part(rt, b"\n");
-}
-
-fn put_meaning(refusal: bool, out: &mut [u8], number: u32) -> usize {
-    if refusal {
-        return put_refusal_meaning(out, number);
-    }
-    put_verdict_meaning(out, number)
 }

@@ -1,5 +1,5 @@
 // Commands on standard input, one to a line.
-ghost use Rattle.std.specs.Prelude.{◌≡◌, ◌+◌, ◌≤◌, true, false, max, length, drop, ltb};
+ghost use Rattle.std.specs.Prelude.{◌≡◌, ◌+◌, ◌≤◌, true, length, drop, ltb};
 ghost use Rattle.rules.specs.Choice.{choose};
 ghost use Rattle.control_chart.specs.Input.{after_answer, with_part, Keeps, HasRoom, CanTake, GivesAtEnd, IsAfter, EndsLine, Answers};
 ghost use Rattle.control_chart.specs.Input.{Came, Taken, IsInputRead, IsAtEnd, to_line_feed};
@@ -12,9 +12,14 @@ use parsing::fields::without_return;
 use parsing::text::mark_size;
 use printing::put_text;
 use std::io::{Error, Read};
+use std::ops::ControlFlow;
+use std::ops::ControlFlow::{Break, Continue};
 
 // `line_room` in `specs/Input`.
 pub const LINE_ROOM: usize = LINE_MOST + 5;
+
+// More reads than any input needs.
+const READS: u64 = 1 << 63;
 
 // The most bytes of one read.
 const READ_ROOM: usize = 4096;
@@ -46,20 +51,17 @@ pub fn commands_from_input(rt: HostRuntime) -> Pending
     end_input(rt, last, &line)
 }
 
-// Reads to the end of the input. No contract says that the input ends, so the loop counts its reads: 2^63 are more than any input needs.
+// Reads to the end of the input. No contract says that the input ends, so the loop counts its reads.
 fn take_all(rt: HostRuntime, pending: Pending, line: &mut [u8]) -> Pending
     requires { CanTake pending line.old }
     ensures { Came pending line.old result line.new }
 {
     let mut kept = pending;
-    let mut left: u64 = 9223372036854775808;
-    while 0 < left {
-        let after = read_some(rt, kept, line);
-        kept = after.pending;
-        if !after.more {
-            return kept;
+    for _ in 0..READS {
+        match read_some(rt, kept, line) {
+            Continue(pending) => kept = pending,
+            Break(last) => return last,
         }
-        left -= 1;
     }
     kept
 }
@@ -76,16 +78,9 @@ fn end_input(rt: HostRuntime, pending: Pending, line: &[u8]) -> Pending
     end_line(rt, pending, &line[..n])
 }
 
-// What is pending after a read, and whether to go on.
-#[derive(Drop)]
-struct AfterRead {
-    more: bool,
-    pending: Pending,
-}
-
 // A read has failed. A line that has begun is dropped, because its end is not known.
-fn read_failed(rt: HostRuntime, pending: Pending, reason: Error) -> AfterRead
-    ensures { result ≡ record { more = false; pending = record { chart = pending.chart; len = 0; status = 3; told = true } } }
+fn read_failed(rt: HostRuntime, pending: Pending, reason: Error) -> Pending
+    ensures { result ≡ record { chart = pending.chart; len = 0; status = 3; told = true } }
 {
     let chart = pending.chart;
     let status = failure(
@@ -94,19 +89,16 @@ fn read_failed(rt: HostRuntime, pending: Pending, reason: Error) -> AfterRead
         b"it cannot be read, and the rest was not done",
         reason,
     );
-    AfterRead {
-        more: false,
-        pending: Pending {
-            chart,
-            len: 0,
-            status,
-            told: true,
-        },
+    Pending {
+        chart,
+        len: 0,
+        status,
+        told: true,
     }
 }
 
-// One read.
-fn read_some(rt: HostRuntime, pending: Pending, line: &mut [u8]) -> AfterRead
+// One read: what is pending after it, and whether to go on.
+fn read_some(rt: HostRuntime, pending: Pending, line: &mut [u8]) -> ControlFlow<Pending, Pending>
     requires { CanTake pending line.old }
     ensures { IsInputRead pending line.old result line.new }
 {
@@ -115,13 +107,12 @@ fn read_some(rt: HostRuntime, pending: Pending, line: &mut [u8]) -> AfterRead
     match input.read(&mut bytes) {
         Ok(n) => {
             let after = take_bytes(rt, pending, &bytes[..n], line);
-            let told = after.told;
-            AfterRead {
-                more: (0 < n) & told,
-                pending: after,
+            if 0 < n && after.told {
+                return Continue(after);
             }
+            Break(after)
         }
-        Err(reason) => read_failed(rt, pending, reason),
+        Err(reason) => Break(read_failed(rt, pending, reason)),
     }
 }
 
@@ -149,14 +140,18 @@ fn line_end(bytes: &[u8], at: usize) -> usize
     ensures place { result ≡ at + to_line_feed (drop at bytes.now) }
     ensures within { result ≤ length bytes.now }
 {
-    let mut end = at;
-    while end < bytes.len() {
-        if bytes[end] == b'\n' {
-            return end;
-        }
-        end += 1;
-    }
-    end
+    at + to_line_feed(&bytes[at..])
+}
+
+// How many bytes there are before the first line feed; if there is none, all of them.
+fn to_line_feed(bytes: &[u8]) -> usize
+    ensures place { result ≡ to_line_feed bytes.now }
+    ensures within { result ≤ length bytes.now }
+{
+    bytes
+        .iter()
+        .position(|byte| *byte == b'\n')
+        .unwrap_or(bytes.len())
 }
 
 // The place after the line feed; if there is none, the end of the bytes.
@@ -212,7 +207,7 @@ fn after_answer(rt: HostRuntime, chart: Chart, earlier: u8, text: &[u8]) -> Pend
 {
     match say(rt, text) {
         Ok(()) => {
-            let status = higher(earlier, exit_status(text));
+            let status = earlier.max(exit_status(text));
             Pending {
                 chart,
                 len: 0,
@@ -235,10 +230,4 @@ fn after_answer(rt: HostRuntime, chart: Chart, earlier: u8, text: &[u8]) -> Pend
             }
         }
     }
-}
-
-fn higher(a: u8, b: u8) -> u8
-    ensures { result ≡ max a b }
-{
-    if a < b { b } else { a }
 }

@@ -22,18 +22,14 @@ pub fn put_lock_name(path: &[u8], name: &mut [u8]) -> usize
 
 // Makes the lock, and answers the file, open for writing to it. If it cannot make the lock, it says why.
 pub fn take_lock(rt: HostRuntime, path: &[u8], lock: &[u8]) -> Option<File> {
-    let mut left = TRIES;
-    while 0 < left {
+    for _ in 0..TRIES {
         match system::create(rt, lock) {
             Ok(file) => return Some(file),
-            Err(reason) => {
-                if reason.kind() != ErrorKind::AlreadyExists {
-                    return no_lock(rt, path, reason);
-                }
+            Err(reason) if reason.kind() != ErrorKind::AlreadyExists => {
+                return no_lock(rt, path, reason);
             }
+            Err(_) => system::pause(rt),
         }
-        system::pause(rt);
-        left -= 1;
     }
     say_locked(rt, path, lock);
     None

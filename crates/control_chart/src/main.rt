@@ -30,7 +30,7 @@ use help::{explain, say_version};
 use input::commands_from_input;
 use outcomes::names::is_name;
 use parsing::fields::same_bytes;
-use say::{error, file_first};
+use say::{ERROR, error, file_first};
 use std::rt::Env;
 
 // The most bytes of FILE's name: `.lock` follows it in the lock's name, and a path has at most 4,095 bytes.
@@ -60,12 +60,7 @@ fn asks_for_status(rt: HostRuntime) -> bool {
 }
 
 fn tell_status(status: u8) -> bool {
-    match status {
-        0 => io::write_all(STATUS_FD, b"0"),
-        1 => io::write_all(STATUS_FD, b"1"),
-        2 => io::write_all(STATUS_FD, b"2"),
-        _ => io::write_all(STATUS_FD, b"3"),
-    }
+    io::write_all(STATUS_FD, &[b'0' + status.min(ERROR)])
 }
 
 // Does what the arguments from `first` on ask for. Answers the exit status. If standard output is closed, nothing is done: a file that is
@@ -105,7 +100,7 @@ fn by_first(rt: HostRuntime, word: &[u8], next: usize, count: usize) -> u8 {
     if NAME_MOST < word.len() {
         return long_name(rt);
     }
-    if word.len() == 0 {
+    if word.is_empty() {
         return error(rt, b"FILE", b"the name is empty");
     }
     if next < count {

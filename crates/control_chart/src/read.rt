@@ -1,48 +1,28 @@
 // The bytes of a file.
-ghost use Rattle.std.specs.Prelude.{◌≡◌, length, IfOk, OnErr};
+ghost use Rattle.std.specs.Prelude.{◌≡◌, length, IfOk, IfSome, OnErr};
 ghost use Rattle.io.specs.Counts.{IsPrefixLen};
 
 use std::fs::File;
 use std::io::{ErrorKind, Read, Result};
 use system::Permissions;
 
-// What reading a file gave: whether there is a file, how many bytes were read, and its permissions. A file that is longer than the buffer is
-// read only until the buffer is full. These bytes are longer than any stored form, so they are none either.
+// What reading a file gave: how many bytes were read, and its permissions. A file that is longer than the buffer is read only until the
+// buffer is full. These bytes are longer than any stored form, so they are none either.
 #[derive(Drop)]
 pub struct FileRead {
-    pub there: bool,
     pub len: usize,
     pub permissions: Permissions,
 }
 
-// It is no failure if there is no file.
-pub fn read_file(rt: HostRuntime, path: &[u8], held: &mut [u8]) -> Result<FileRead>
-    ensures read { IfOk result (λ r. IsPrefixLen r.len held.new) }
+// None if there is no file, which is no failure.
+pub fn read_file(rt: HostRuntime, path: &[u8], held: &mut [u8]) -> Result<Option<FileRead>>
+    ensures read { IfOk result (λ read. IfSome read (λ r. IsPrefixLen r.len held.new)) }
     ensures failed { OnErr result (length held.new ≡ length held.old) }
 {
     match system::open_read(rt, path) {
-        Ok(file) => read_open(file, held),
-        Err(error) => {
-            if error.kind() == ErrorKind::NotFound {
-                return Ok(no_file());
-            }
-            Err(error)
-        }
-    }
-}
-
-fn no_file() -> FileRead
-    ensures { result.len ≡ 0 }
-{
-    FileRead {
-        there: false,
-        len: 0,
-        permissions: Permissions {
-            known: false,
-            mode: 0,
-            owner: 0,
-            group: 0,
-        },
+        Ok(file) => Ok(Some(read_open(file, held)?)),
+        Err(error) if error.kind() == ErrorKind::NotFound => Ok(None),
+        Err(error) => Err(error),
     }
 }
 
@@ -52,11 +32,7 @@ fn read_open(file: File, held: &mut [u8]) -> Result<FileRead>
 {
     let permissions = system::permissions_of(&file)?;
     let len = read_all(file, held)?;
-    Ok(FileRead {
-        there: true,
-        len,
-        permissions,
-    })
+    Ok(FileRead { len, permissions })
 }
 
 // Reads to the end, or until the buffer is full. A read may bring less than there is.

@@ -18,7 +18,7 @@ pub fn replace_file(
     path: &[u8],
     lock: &[u8],
     file: &File,
-    permissions: Permissions,
+    permissions: Option<Permissions>,
     form: &[u8],
 ) -> bool {
     if let Err(reason) = fill_lock(rt, file, permissions, form) {
@@ -53,8 +53,15 @@ pub fn replace_file(
 }
 
 // Gives the lock the old file's permissions, writes the new bytes and syncs them.
-fn fill_lock(rt: HostRuntime, file: &File, permissions: Permissions, form: &[u8]) -> Result<()> {
-    give_permissions(file, permissions)?;
+fn fill_lock(
+    rt: HostRuntime,
+    file: &File,
+    permissions: Option<Permissions>,
+    form: &[u8],
+) -> Result<()> {
+    if let Some(old) = permissions {
+        give_permissions(file, old)?;
+    }
     let mut to = file;
     write_text(rt, &mut to, form)?;
     file.sync_all()
@@ -62,9 +69,6 @@ fn fill_lock(rt: HostRuntime, file: &File, permissions: Permissions, form: &[u8]
 
 // Gives the lock the mode of the old file. It also gives the old owner and group, as far as this user may.
 fn give_permissions(file: &File, permissions: Permissions) -> Result<()> {
-    if !permissions.known {
-        return Ok(());
-    }
     if fchown(file, Some(permissions.owner), Some(permissions.group)).is_err() {
         let _ = fchown(file, None, Some(permissions.group));
     }
@@ -86,13 +90,8 @@ fn sync_named(rt: HostRuntime, name: &[u8]) -> Result<()> {
     let synced = folder.sync_all();
     system::keep_open(folder);
     match synced {
-        Ok(()) => Ok(()),
-        Err(reason) => {
-            if reason.kind() == ErrorKind::InvalidInput {
-                return Ok(());
-            }
-            Err(reason)
-        }
+        Err(reason) if reason.kind() != ErrorKind::InvalidInput => Err(reason),
+        _ => Ok(()),
     }
 }
 
@@ -101,12 +100,7 @@ fn folder_len(path: &[u8]) -> usize
     ensures folder { IsFolder path.now result }
     ensures prefix_len { IsPrefixLen result path.now }
 {
-    let mut n = path.len();
-    while 0 < n {
-        if path[n - 1] == b'/' {
-            return n;
-        }
-        n -= 1;
-    }
-    0
+    path.iter()
+        .rposition(|byte| *byte == b'/')
+        .map_or(0, |last| last + 1)
 }

@@ -2,7 +2,6 @@
 ghost use Rattle.std.specs.Prelude.{◌≡◌, ◌≤◌, length, IfOk};
 ghost use Rattle.io.specs.Counts.{IsPrefixLen};
 
-use parsing::text::begins_with;
 use printing::put_text;
 use std::io::{Cursor, Error, ErrorKind, Result, Write};
 
@@ -11,6 +10,9 @@ pub const ERROR: u8 = 3;
 
 // Room for an error: the longest name, and what is wrong, which may contain the lock's name too.
 const ERROR_ROOM: usize = 16384;
+
+// More writes than any text needs.
+const WRITES: u64 = 1 << 63;
 
 // Room for the system's words.
 const REASON_ROOM: usize = 256;
@@ -33,16 +35,15 @@ pub fn say_front(rt: HostRuntime, out: &[u8], size: usize) {
 }
 
 // Writes all of a text, or answers why it could not. It waits if the system cannot take a byte at the moment. No contract says that a write
-// ever takes a byte, so the loop counts its writes: 2^63 are more than any text needs.
+// ever takes a byte, so the loop counts its writes.
 pub fn write_text<W: Write>(rt: HostRuntime, to: &mut W, text: &[u8]) -> Result<()> {
-    let mut at: usize = 0;
-    let mut left: u64 = 9223372036854775808;
-    while 0 < left {
-        if at == text.len() {
+    let mut left = text;
+    for _ in 0..WRITES {
+        if left.is_empty() {
             return Ok(());
         }
-        at += write_some(rt, to, &text[at..])?;
-        left -= 1;
+        let count = write_some(rt, to, left)?;
+        left = &left[count..];
     }
     Err(Error::from(ErrorKind::TimedOut))
 }
@@ -138,18 +139,16 @@ fn put_reason(text: &mut [u8], at: usize, reason: Error) -> usize
 fn words_len(shown: &[u8]) -> usize
     ensures { IsPrefixLen result shown.now }
 {
-    let mut n: usize = 0;
-    while n < shown.len() {
+    for n in 0..shown.len() {
         if ends_words(&shown[n..]) {
             return n;
         }
-        n += 1;
     }
-    n
+    shown.len()
 }
 
 fn ends_words(rest: &[u8]) -> bool {
-    begins_with(rest, b" (os error ") | begins_with(rest, b"\0")
+    rest.starts_with(b" (os error ") || rest.starts_with(b"\0")
 }
 
 // Puts a text from a place within the buffer on. The place after it lies within the buffer too, so the bytes before it can be lent.

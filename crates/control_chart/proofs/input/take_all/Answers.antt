@@ -1,20 +1,19 @@
 -- `control_chart::input::take_all` meets its contract.
+use mathlib.Core.Path.{refl}
 use borrow.Author.Rules.{rules}
-use borrow.Author.Tests.{not-false}
 use Rattle.control_chart.proofs.Taking.{none_came, so_came, last_came, more_came}
 use Rattle.control_chart.proofs.input.take_all.Goals as goal
 
-pub loop-left-init : goal.loop-left-init
-loop-left-init c = none_came c.requires
+pub loop-init : goal.loop-init
+loop-init c = none_came c.requires
 
-pub returns-then-not-after : goal.returns-then-not-after
-returns-then-not-after c = last_came c.loop-left.invariant c.read_some-after.ensures.came
+pub returns-in-Break : goal.returns-in-Break
+returns-in-Break c = last_came c.loop.invariant c.in-Break.ensures.came
 
-pub loop-left-preserved : goal.loop-left-preserved
-loop-left-preserved c =
-    let some = c.read_some-after.ensures in
-    let more = not-false _ c.if-not-after.false in
-    more_came c.loop-left.invariant some.came (some.goes_on more) (some.told more) (search rules)
+pub loop-preserved : goal.loop-preserved
+loop-preserved c =
+    let some = c.in-Continue.ensures in
+    more_came c.loop.invariant some.came (some.goes_on refl) (some.told refl) (search rules)
 
 pub returns : goal.returns
-returns c = so_came c.loop-left.invariant
+returns c = so_came c.loop.invariant
