@@ -153,24 +153,25 @@ less_remains {line} n {m} t found =
 
 -- ---- four numbers, one after the other
 
-module _ {line : List ℕ} {at : ℕ} {n₁ n₂ n₃ n₄ : NumberAt} (first : IsNumberAt line at n₁) (second : IsNumberAt line n₁.next n₂)
-    (third : IsNumberAt line n₂.next n₃) (fourth : IsNumberAt line n₃.next n₄) where
+module _ {line : List ℕ} {at : ℕ} {n₁ n₂ : NumberAt} (first : IsNumberAt line at n₁) (second : IsNumberAt line n₁.next n₂) where
   pub behind_two : fields_from line n₂.next ≡ drop 2 (fields_from line at)
   behind_two = second.rest ∙ ap (drop 1) first.rest ∙ drop-drop 1 1 (fields_from line at)
 
-  pub behind_three : fields_from line n₃.next ≡ drop 3 (fields_from line at)
-  behind_three = third.rest ∙ ap (drop 1) behind_two ∙ drop-drop 1 2 (fields_from line at)
+  module _ {n₃ : NumberAt} (third : IsNumberAt line n₂.next n₃) where
+    pub behind_three : fields_from line n₃.next ≡ drop 3 (fields_from line at)
+    behind_three = third.rest ∙ ap (drop 1) behind_two ∙ drop-drop 1 2 (fields_from line at)
 
-  pub behind_four : fields_from line n₄.next ≡ drop 4 (fields_from line at)
-  behind_four = fourth.rest ∙ ap (drop 1) behind_three ∙ drop-drop 1 3 (fields_from line at)
+    module _ {n₄ : NumberAt} (fourth : IsNumberAt line n₃.next n₄) where
+      pub behind_four : fields_from line n₄.next ≡ drop 4 (fields_from line at)
+      behind_four = fourth.rest ∙ ap (drop 1) behind_three ∙ drop-drop 1 3 (fields_from line at)
 
-  pub readings_found : {kind : ℕ} {a b c : ℤ} → kind ≡ kind_in_field (number_says n₁.number) → a ≡ reading_in_field (number_says n₂.number)
-      → b ≡ reading_in_field (number_says n₃.number) → c ≡ reading_in_field (number_says n₄.number)
-      → AreReadings (fields_from line at) (record { kind = kind; a = a; b = b; c = c })
-  readings_found is_kind_lem is-a is_b is_c =
-      record {
-        kind = is_kind_lem ∙ ap kind_in_field first.number;
-        a = is-a ∙ ap reading_in_field (second.number ∙ ap first_number first.rest);
-        b = is_b ∙ ap reading_in_field (third.number ∙ ap first_number behind_two);
-        c = is_c ∙ ap reading_in_field (fourth.number ∙ ap first_number behind_three);
-      }
+      pub readings_found : {kind : ℕ} {a b c : ℤ} → kind ≡ kind_in_field (number_says n₁.number) → a ≡ reading_in_field (number_says n₂.number)
+          → b ≡ reading_in_field (number_says n₃.number) → c ≡ reading_in_field (number_says n₄.number)
+          → AreReadings (fields_from line at) (record { kind = kind; a = a; b = b; c = c })
+      readings_found is_kind_lem is-a is_b is_c =
+          record {
+            kind = is_kind_lem ∙ ap kind_in_field first.number;
+            a = is-a ∙ ap reading_in_field (second.number ∙ ap first_number first.rest);
+            b = is_b ∙ ap reading_in_field (third.number ∙ ap first_number behind_two);
+            c = is_c ∙ ap reading_in_field (fourth.number ∙ ap first_number behind_three);
+          }

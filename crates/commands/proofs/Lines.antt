@@ -14,11 +14,10 @@ use Rattle.printing.specs.Output.{Puts}
 use Rattle.printing.proofs.Putting.{puts_then}
 use Rattle.replies.specs.declared.Fault.{Fault}
 use Rattle.replies.specs.declared.Fault.TheVariants as faults
-use Rattle.commands.specs.declared.faults.Finding.{Finding}
-use Rattle.commands.specs.declared.faults.Finding.TheVariants as finding
 use Rattle.commands.specs.declared.names.Name.{Name}
 use Rattle.commands.specs.declared.names.Name.TheVariants as name
-use Rattle.commands.specs.Command.{passed_over, faulty, line_most, command_for, fault_for, name_in, named_line, line_of, line_in}
+use Rattle.std.specs.Prelude.{Ok, Err}
+use Rattle.commands.specs.Command.{Finding, passed_over, faulty, line_most, command_for, fault_for, name_in, named_line, line_of, line_in}
 use Rattle.commands.specs.Reply.{reply_to_line, answer_to_line}
 use Rattle.commands.specs.Answers.{Answers, Replies}
 use Rattle.commands.proofs.Fields.{none_found, one_found, comment_found}
@@ -48,13 +47,13 @@ module _ (text : List ℕ) (start end : ℕ) (short : length text ≤ line_most)
       unfolding line_of
       a_command = by_fields ∙ ap line_of (one_found f some) ∙ rw (comment_found f some, e, ← named)
 
-      pub a_fault : {fault : Fault} → found ≡ finding.Is fault → line_in text ≡ faulty fault
+      pub a_fault : {fault : Fault} → found ≡ Err fault → line_in text ≡ faulty fault
       unfolding named_line
       a_fault is = a_command ∙ rw (← is_found, is)
 
-      pub no_fault : found ≡ finding.NoFault → line_in text ≡ command_for n (fields_of (drop end text))
+      pub without_fault : {u : Unit {0}} → found ≡ Ok u → line_in text ≡ command_for n (fields_of (drop end text))
       unfolding named_line
-      no_fault none = a_command ∙ rw (← is_found, none)
+      without_fault none = a_command ∙ rw (← is_found, none)
 
 -- a line feed follows the reply to a command
 line_feed_lem : (c : Chart) (n : Name) (fields : List (List ℕ))

@@ -26,8 +26,7 @@ use Rattle.printing.specs.Hex.{hex_digit, hex_of}
 use Rattle.printing.proofs.HexDigits.{hex_length, hex_figure, hex_letter}
 use Rattle.printing.specs.Ascii.{ascii}
 use Rattle.replies.specs.Texts.{bytes_text, reading_text}
-use Rattle.commands.specs.declared.faults.Finding.TheVariants as finding
-use Rattle.commands.specs.Command.{line_most, asked, read_fault, hex_fault, command_for, name_in, named_line, line_of, line_in}
+use Rattle.commands.specs.Command.{no_fault, line_most, asked, read_fault, hex_fault, command_for, name_in, named_line, line_of, line_in}
 use Rattle.commands.specs.Command as command
 use Rattle.commands.specs.Reply.{reply_to, chart_read, chart_after_command}
 
@@ -111,16 +110,16 @@ module _ (b : ℕ) (bytes : List ℕ) (h : AllBelow 256 (b ∷ bytes)) where
   unfolding fields_of is_blank
   fields_are = ap (λ (fields : List (List ℕ)). ascii "read" ∷ fields) (hex_field b bytes h.0 h.1)
 
-  no_fault : read_fault (hex_of (b ∷ bytes) ∷ []) ≡ finding.NoFault
+  faultless : read_fault (hex_of (b ∷ bytes) ∷ []) ≡ no_fault
   unfolding read_fault hex_fault
-  no_fault =
+  faultless =
       let digits = hex_of (b ∷ bytes) in
       let even : length digits % 2 ≡ 0 = omega (arith, hex_length (b ∷ bytes)) in
       rw (hex_is_hex (b ∷ bytes) h, eq-eqb (length digits % 2) 0 even)
 
   fields_read : line_of (ascii "read" ∷ hex_of (b ∷ bytes) ∷ []) ≡ asked (command.read (b ∷ bytes))
   unfolding line_of name_in named_line command_for same_bytes
-  fields_read = rw (no_fault, hex_back (b ∷ bytes) h)
+  fields_read = rw (faultless, hex_back (b ∷ bytes) h)
 
 -- at most 4,000 bytes, which fit in a line
 read_line : (bytes : List ℕ) → AllBelow 256 bytes → 1 ≤ length bytes → length bytes ≤ 4000

@@ -10,15 +10,13 @@ use Rattle.rules.specs.Machine.{Call, Answer}
 use Rattle.rules.specs.Building.{BuiltState, building}
 use Rattle.rules.specs.ReadForm.{reading}
 use Rattle.rules.proofs.Outcome.{given_not_refused}
+use Rattle.std.specs.Prelude.{Result, Ok, Err}
+use Rattle.refusals.specs.declared.Refusal.{Refusal}
 use Rattle.chart.specs.declared.Chart.{Chart}
-use Rattle.chart.specs.declared.BuildAnswer.{BuildAnswer}
-use Rattle.chart.specs.declared.BuildAnswer.TheVariants as build
-use Rattle.chart.specs.declared.Built.{Built}
+use Rattle.chart.specs.declared.Called.{Called}
+use Rattle.chart.specs.declared.Counts.{Counts}
 use Rattle.chart.specs.Chart.{chart_after, build_says, Builds}
 use Rattle.chart.specs.Calls.{next_chart, answer_to, Gives}
-use Rattle.store.specs.declared.ReadAnswer.{ReadAnswer}
-use Rattle.store.specs.declared.ReadAnswer.TheVariants as read
-use Rattle.store.specs.declared.ReadChart.{ReadChart}
 use Rattle.store.specs.Store.{read_says, chart_after_reading, IsRead}
 use Rattle.printing.specs.Output.{Puts}
 use Rattle.replies.specs.Texts.{answer_text, building_text, reading_text}
@@ -27,7 +25,8 @@ use Rattle.commands.specs.declared.names.Inquiry.TheVariants as inquiry
 use Rattle.commands.specs.Command.{Command, asked, inquiry_for}
 use Rattle.commands.specs.Command as command
 use Rattle.commands.specs.Reply.{chart_built, chart_read, reply_to, chart_after_command}
-use Rattle.commands.specs.Answers.{Replies, after_build, after_read}
+use Rattle.commands.specs.Answers.{Replies, either_chart}
+use Rattle.commands.specs.Answers as commands
 
 -- ---- a call on the chart: the reply is what the call answers, and the chart after it is the one that the call gave back
 
@@ -57,43 +56,43 @@ replies_inquiry c q fields puts = record { chart = sym (inquiry_leaves c q field
 
 -- ---- building and reading: a refused `build` or `read` does not change the chart
 
-kept_build : (c built : Chart) (answer : BuildAnswer) (a : Outcome BuiltState)
-    → built ≡ chart_after a → build_says built answer ≡ a → after_build c built answer ≡ chart_built c a
-unfolding chart_after build_says after_build
-kept_build c built (build.Done rounds removed) (given b) chart says = chart
-kept_build c built (build.Done rounds removed) (refused n) chart says = given_not_refused says
-kept_build c built (build.Refused n) (given b) chart says = given_not_refused (sym says)
-kept_build c built (build.Refused n) (refused m) chart says = refl
+kept_build : (c built : Chart) (answer : Result Counts Refusal) (a : Outcome BuiltState)
+    → built ≡ chart_after a → build_says built answer ≡ a → either_chart answer built c ≡ chart_built c a
+unfolding chart_after build_says
+kept_build c built (Ok counts) (given b) chart says = chart
+kept_build c built (Ok counts) (refused n) chart says = given_not_refused says
+kept_build c built (Err r) (given b) chart says = given_not_refused (sym says)
+kept_build c built (Err r) (refused m) chart says = refl
 
 -- building from equal kinds and equal words
-pub builds_same : {kind k : ℕ} {words ws : List ℤ} {r : Built} → kind ≡ k → words ≡ ws → Builds kind words r → Builds k ws r
+pub builds_same : {kind k : ℕ} {words ws : List ℤ} {r : Called Counts} → kind ≡ k → words ≡ ws → Builds kind words r → Builds k ws r
 builds_same {k = k} {words = words} {r = r} e f builds =
     subst (λ (x : List ℤ). Builds k x r) f (subst (λ (n : ℕ). Builds n words r) e builds)
 
-pub replies_build : (c : Chart) (kind : ℕ) (words : List ℤ) (r : Built) {next : Chart} {before after : List ℕ} {size : ℕ}
-    → Builds kind words r → next ≡ after_build c r.chart r.answer
+pub replies_build : (c : Chart) (kind : ℕ) (words : List ℤ) (r : Called Counts) {next : Chart} {before after : List ℕ} {size : ℕ}
+    → Builds kind words r → next ≡ commands.chart_kept c r
     → Puts before 0 (building_text (build_says r.chart r.answer)) after size
     → Replies c (asked (command.build kind words)) before after (record { chart = next; size = size })
-unfolding reply_to chart_after_command
+unfolding reply_to chart_after_command commands.chart_kept
 replies_build c kind words r {before = before} {after = after} {size = size} builds kept puts =
     record {
       chart = kept ∙ kept_build c r.chart r.answer (building kind words) builds.chart builds.says;
       text = subst (λ (a : Outcome BuiltState). Puts before 0 (building_text a) after size) builds.says puts;
     }
 
-kept_read : (c read-chart : Chart) (answer : ReadAnswer) (a : Outcome State)
-    → read-chart ≡ chart_after_reading a → read_says read-chart answer ≡ a → after_read c read-chart answer ≡ chart_read c a
-unfolding chart_after_reading read_says after_read
-kept_read c held read.Done (given s) chart says = chart
-kept_read c held read.Done (refused n) chart says = given_not_refused says
-kept_read c held (read.Refused n) (given s) chart says = given_not_refused (sym says)
-kept_read c held (read.Refused n) (refused m) chart says = refl
+kept_read : (c held : Chart) (answer : Result (Unit {0}) Refusal) (a : Outcome State)
+    → held ≡ chart_after_reading a → read_says held answer ≡ a → either_chart answer held c ≡ chart_read c a
+unfolding chart_after_reading read_says
+kept_read c held (Ok _) (given s) chart says = chart
+kept_read c held (Ok _) (refused n) chart says = given_not_refused says
+kept_read c held (Err r) (given s) chart says = given_not_refused (sym says)
+kept_read c held (Err r) (refused m) chart says = refl
 
-pub replies_read : (c : Chart) (bytes : List ℕ) (r : ReadChart) {next : Chart} {before after : List ℕ} {size : ℕ}
-    → IsRead (reading bytes) r → next ≡ after_read c r.chart r.answer
+pub replies_read : (c : Chart) (bytes : List ℕ) (r : Called (Unit {0})) {next : Chart} {before after : List ℕ} {size : ℕ}
+    → IsRead (reading bytes) r → next ≡ commands.chart_kept c r
     → Puts before 0 (reading_text (read_says r.chart r.answer)) after size
     → Replies c (asked (command.read bytes)) before after (record { chart = next; size = size })
-unfolding reply_to chart_after_command
+unfolding reply_to chart_after_command commands.chart_kept
 replies_read c bytes r {before = before} {after = after} {size = size} is kept puts =
     record {
       chart = kept ∙ kept_read c r.chart r.answer (reading bytes) is.chart is.says;

@@ -1,11 +1,9 @@
 -- What the functions of `commands` give.
-use Rattle.std.specs.Prelude.{◌≡◌, true, not, List, ℕ, ◌-◌, ◌≤◌, ◌<◌, length, drop, eqb, ltb}
+use Rattle.std.specs.Prelude.{◌≡◌, true, not, List, ℕ, ◌-◌, ◌≤◌, ◌<◌, length, drop, eqb, ltb, Result, Ok, Err}
 use Rattle.rules.specs.Choice.{require}
+use Rattle.refusals.specs.declared.Refusal.{Refusal}
 use Rattle.chart.specs.declared.Chart.{Chart}
-use Rattle.chart.specs.declared.BuildAnswer.{BuildAnswer}
-use Rattle.chart.specs.declared.BuildAnswer.TheVariants as build
-use Rattle.store.specs.declared.ReadAnswer.{ReadAnswer}
-use Rattle.store.specs.declared.ReadAnswer.TheVariants as read
+use Rattle.chart.specs.declared.Called.{Called}
 use Rattle.rules.specs.Word.{word_alone}
 use Rattle.rules.specs.Buffer.{Placed}
 use Rattle.parsing.specs.Fields.{fields_of, between, IsFirstField}
@@ -15,10 +13,8 @@ use Rattle.commands.specs.declared.Answered.{Answered}
 use Rattle.commands.specs.declared.numbers.NumberAt.{NumberAt}
 use Rattle.commands.specs.declared.numbers.Readings.{Readings}
 use Rattle.replies.specs.declared.Fault.TheVariants as faults
-use Rattle.commands.specs.declared.faults.Finding.{Finding}
-use Rattle.commands.specs.declared.faults.Finding.TheVariants as finding
 use Rattle.replies.specs.Texts.{formed_text}
-use Rattle.commands.specs.Command.{Line, first_field, first_number}
+use Rattle.commands.specs.Command.{Finding, Line, first_field, first_number}
 use Rattle.commands.specs.Reply.{reply_to_line, chart_after_line, answer_to_line, answer_most}
 
 -- the contract of answering a line: the chart after it, every byte of the buffer, and how many of them are the answer
@@ -67,16 +63,16 @@ pub record AreReadings (fields : List (List ℕ)) (r : Readings) : Type 0 where
 
 -- the fault of a number that the command takes. If there is no field, the number is missing
 unfoldable pub fault_at : (FieldNumber → Finding) → NumberAt → Finding
-fault_at fault n = require n.present (finding.Is faults.MissingNumber) (fault (number_says n.number))
+fault_at fault n = require n.present (Err faults.MissingNumber) (fault (number_says n.number))
 
--- the chart after a build on `chart` that gave `built` and this answer, and the chart after a read that gave `taken` and this answer
-unfoldable pub after_build : Chart → Chart → BuildAnswer → Chart
-after_build chart built (build.Done rounds removed) = built
-after_build chart built (build.Refused n) = chart
+-- the chart after a call that was not refused, or else the one before it
+abbrev pub either_chart : {A : Type 0} → Result A Refusal → Chart → Chart → Chart
+either_chart (Ok _) after before = after
+either_chart (Err _) after before = before
 
-unfoldable pub after_read : Chart → Chart → ReadAnswer → Chart
-after_read chart taken read.Done = taken
-after_read chart taken (read.Refused n) = chart
+-- the chart after a build or a read on `chart`
+unfoldable pub chart_kept : {A : Type 0} → Chart → Called A → Chart
+chart_kept chart r = either_chart r.answer r.chart chart
 
 -- the reply to `word`, which does not depend on the chart
 unfoldable pub word_reply : List (List ℕ) → List ℕ

@@ -1,5 +1,5 @@
 -- The command in a line. The line's first field is the command's name, and the fields after the name are what it takes.
-use Rattle.std.specs.Prelude.{Bool, false, List, [], ◌∷◌, map, ℕ, ◌%◌, length, drop, eqb, leb, ℤ}
+use Rattle.std.specs.Prelude.{Bool, false, List, [], ◌∷◌, map, ℕ, ◌%◌, length, drop, eqb, leb, ℤ, Result, Ok, Err}
 use Rattle.rules.specs.Choice.{require, choose}
 use Rattle.parsing.specs.Bytes.{same_bytes}
 use Rattle.parsing.specs.Fields.{fields_of}
@@ -14,8 +14,6 @@ use Rattle.commands.specs.declared.names.Name.TheVariants as name
 use Rattle.printing.specs.Ascii.{ascii}
 use Rattle.replies.specs.declared.Fault.{Fault}
 use Rattle.replies.specs.declared.Fault.TheVariants as faults
-use Rattle.commands.specs.declared.faults.Finding.{Finding}
-use Rattle.commands.specs.declared.faults.Finding.TheVariants as finding
 
 -- the most bytes of a line
 abbrev pub line_most : ℕ
@@ -51,34 +49,41 @@ first_number fields = number_in_field (first_field fields)
 
 -- ---- the first fault, from left to right
 
+-- what is found in fields: no fault, or the first one
+abbrev pub Finding : Type 0
+Finding = Result (Unit {0}) Fault
+
+abbrev pub no_fault : Finding
+no_fault = Ok tt
+
 -- the first of two findings
 abbrev pub or_else : Finding → Finding → Finding
-or_else finding.NoFault later = later
-or_else (finding.Is f) later = finding.Is f
+or_else (Ok _) later = later
+or_else (Err f) later = Err f
 
 -- `too_large` is found if the number does not fit a signed 64-bit number
 abbrev pub field_fault : Finding → FieldNumber → Finding
-field_fault too_large no_number = finding.Is faults.NotANumber
+field_fault too_large no_number = Err faults.NotANumber
 field_fault too_large beyond = too_large
-field_fault too_large (whole z) = finding.NoFault
+field_fault too_large (whole z) = no_fault
 
 -- as a kind or a word, any number is without fault. The call refuses a number that is not a kind, or does not fit a word
 abbrev pub number_fault : FieldNumber → Finding
-number_fault = field_fault finding.NoFault
+number_fault = field_fault no_fault
 
 -- a reading may be any signed 64-bit number. A number that does not fit is a fault
 abbrev pub reading_fault : FieldNumber → Finding
-reading_fault = field_fault (finding.Is faults.NumberTooLarge)
+reading_fault = field_fault (Err faults.NumberTooLarge)
 
 -- the fault of a number that the command takes: it is missing, or it has the fault that `fault` gives
 abbrev pub wanted_fault : (FieldNumber → Finding) → List (List ℕ) → Finding
-wanted_fault fault [] = finding.Is faults.MissingNumber
+wanted_fault fault [] = Err faults.MissingNumber
 wanted_fault fault (field ∷ fields) = fault (number_in_field field)
 
 -- the command takes no more fields
 abbrev pub end_fault : List (List ℕ) → Finding
-end_fault [] = finding.NoFault
-end_fault (field ∷ fields) = finding.Is faults.ExtraNumber
+end_fault [] = no_fault
+end_fault (field ∷ fields) = Err faults.ExtraNumber
 
 -- a kind and three readings
 unfoldable pub readings_fault : List (List ℕ) → Finding
@@ -91,7 +96,7 @@ readings_fault fields =
 
 -- any number of words
 unfoldable pub words_fault : List (List ℕ) → Finding
-words_fault [] = finding.NoFault
+words_fault [] = no_fault
 words_fault (field ∷ fields) = or_else (number_fault (number_in_field field)) (words_fault fields)
 
 -- a kind, and words
@@ -101,8 +106,8 @@ build_fault fields = or_else (wanted_fault number_fault fields) (words_fault (dr
 -- hex digits of either case. An odd number of them is a fault
 unfoldable pub hex_fault : List ℕ → Finding
 hex_fault text =
-    require (are_hex text) (finding.Is faults.NotAHexDigit)
-    (require (eqb (length text % 2) 0) (finding.Is faults.OddHexDigits) finding.NoFault)
+    require (are_hex text) (Err faults.NotAHexDigit)
+    (require (eqb (length text % 2) 0) (Err faults.OddHexDigits) no_fault)
 
 -- hex digits in one field. A missing field counts as no digits
 unfoldable pub read_fault : List (List ℕ) → Finding
@@ -125,7 +130,7 @@ inquiry_fault inquiry.Show fields = end_fault fields
 abbrev pub fault_for : Name → List (List ℕ) → Finding
 fault_for (name.Changes c) fields = change_fault c fields
 fault_for (name.Asks q) fields = inquiry_fault q fields
-fault_for name.Other fields = finding.Is faults.UnknownCommand
+fault_for name.Other fields = Err faults.UnknownCommand
 
 -- ---- the command that fields without a fault give
 
@@ -198,8 +203,8 @@ is_comment [] = false
 is_comment (b ∷ rest) = eqb b 35
 
 abbrev pub unless_faulty : Finding → Line → Line
-unless_faulty finding.NoFault line = line
-unless_faulty (finding.Is f) line = faulty f
+unless_faulty (Ok _) line = line
+unless_faulty (Err f) line = faulty f
 
 unfoldable pub named_line : Name → List (List ℕ) → Line
 named_line n fields = unless_faulty (fault_for n fields) (command_for n fields)

@@ -14,10 +14,10 @@ ghost use Rattle.commands.specs.declared.names.Change.TheVariants as change;
 ghost use Rattle.commands.specs.Command.{line_most, faulty, asked, change_for, inquiry_for, command_for, line_in, is_build};
 ghost use Rattle.commands.specs.Command as command;
 ghost use Rattle.commands.specs.Reply.{reply_to};
-ghost use Rattle.commands.specs.Answers.{Answers, AnswersInFull, Replies, fields_from, after_build, after_read, word_reply};
+ghost use Rattle.commands.specs.Answers.{Answers, AnswersInFull, Replies, fields_from, chart_kept, word_reply};
 
-use chart::{BuildAnswer, Chart};
-use faults::{Finding, fault_for};
+use chart::{Called, Chart};
+use faults::fault_for;
 use lines::lines_of;
 use names::{Change, Inquiry, Name, name_in};
 use numbers::{field_at, number_field_at, put_words_at, readings_at};
@@ -29,7 +29,7 @@ use replies::{
     Fault, put_build, put_chart, put_correction, put_fault, put_form, put_form_read, put_formed,
     put_lines, put_post, put_reanalysis, put_refusal, put_renewal,
 };
-use store::{FORM_MOST, ReadAnswer, WriteAnswer};
+use store::FORM_MOST;
 
 // The most bytes of a line.
 pub const LINE_MOST: usize = 8191;
@@ -50,6 +50,13 @@ pub fn answer_line(chart: Chart, line: &[u8], out: &mut [u8]) -> Answered
     ensures answers { Answers chart (line_in line.now) out.old out.new result }
     ensures answers_in_full { AnswersInFull chart (line_in line.now) out.old out.new result }
 {
+    answer(chart, line, out)
+}
+
+// The same for a buffer of any size.
+fn answer(chart: Chart, line: &[u8], out: &mut [u8]) -> Answered
+    ensures { Answers chart (line_in line.now) out.old out.new result }
+{
     if LINE_MOST < line.len() {
         return answer_fault(chart, Fault::LineTooLong, out);
     }
@@ -65,8 +72,8 @@ pub fn answer_line(chart: Chart, line: &[u8], out: &mut [u8]) -> Answered
     let name = name_in(&line[start..end]);
     let found = fault_for(name, line, end);
     match found {
-        Finding::Is(fault) => answer_fault(chart, fault, out),
-        Finding::NoFault => {
+        Err(fault) => answer_fault(chart, fault, out),
+        Ok(()) => {
             let r = perform(chart, name, line, end, out);
             let after = r.chart;
             let size = put_byte(out, r.size, b'\n');
@@ -137,20 +144,20 @@ fn build(chart: Chart, line: &[u8], at: usize, out: &mut [u8]) -> Answered
     let mut words = [0i16; LINE_MOST];
     let n = put_words_at(line, first.next, &mut words);
     let r = Chart::build(kind_in_field(kind), &words[..n]);
-    let built = r.chart;
-    let answer = r.answer;
-    let size = put_build(out, answer);
-    let after = chart_built(chart, built, answer);
-    Answered { chart: after, size }
+    let size = put_build(out, r.answer);
+    Answered {
+        chart: chart_kept(chart, r),
+        size,
+    }
 }
 
-// A refused build does not change the chart.
-fn chart_built(chart: Chart, built: Chart, answer: BuildAnswer) -> Chart
-    ensures { result ≡ after_build chart built answer }
+// A refused build or read does not change the chart.
+fn chart_kept<A: Copy>(chart: Chart, r: Called<A>) -> Chart
+    ensures { result ≡ chart_kept chart r }
 {
-    match answer {
-        BuildAnswer::Done { rounds, removed } => built,
-        BuildAnswer::Refused(_) => chart,
+    match r.answer {
+        Ok(_) => r.chart,
+        Err(_) => chart,
     }
 }
 
@@ -160,10 +167,11 @@ fn post(chart: Chart, line: &[u8], at: usize, out: &mut [u8]) -> Answered
 {
     let f = readings_at(line, at);
     let r = chart.post(f.kind, f.a, f.b, f.c);
-    let after = r.chart;
-    let answer = r.answer;
-    let size = put_post(out, answer);
-    Answered { chart: after, size }
+    let size = put_post(out, r.answer);
+    Answered {
+        chart: r.chart,
+        size,
+    }
 }
 
 fn reanalyse(chart: Chart, line: &[u8], at: usize, out: &mut [u8]) -> Answered
@@ -172,30 +180,33 @@ fn reanalyse(chart: Chart, line: &[u8], at: usize, out: &mut [u8]) -> Answered
 {
     let f = readings_at(line, at);
     let r = chart.reanalyse(f.kind, f.a, f.b, f.c);
-    let after = r.chart;
-    let answer = r.answer;
-    let size = put_reanalysis(out, answer);
-    Answered { chart: after, size }
+    let size = put_reanalysis(out, r.answer);
+    Answered {
+        chart: r.chart,
+        size,
+    }
 }
 
 fn correct(chart: Chart, out: &mut [u8]) -> Answered
     ensures { Replies chart (asked command.correct) out.old out.new result }
 {
     let r = chart.correct();
-    let after = r.chart;
-    let answer = r.answer;
-    let size = put_correction(out, answer);
-    Answered { chart: after, size }
+    let size = put_correction(out, r.answer);
+    Answered {
+        chart: r.chart,
+        size,
+    }
 }
 
 fn renew(chart: Chart, out: &mut [u8]) -> Answered
     ensures { Replies chart (asked command.renew) out.old out.new result }
 {
     let r = chart.renew();
-    let after = r.chart;
-    let answer = r.answer;
-    let size = put_renewal(out, answer);
-    Answered { chart: after, size }
+    let size = put_renewal(out, r.answer);
+    Answered {
+        chart: r.chart,
+        size,
+    }
 }
 
 fn read(chart: Chart, line: &[u8], at: usize, out: &mut [u8]) -> Answered
@@ -208,20 +219,10 @@ fn read(chart: Chart, line: &[u8], at: usize, out: &mut [u8]) -> Answered
     let mut bytes = [0u8; LINE_MOST];
     let n = put_bytes_of_hex(&line[start..end], &mut bytes);
     let r = store::read(&bytes[..n]);
-    let taken = r.chart;
-    let answer = r.answer;
-    let size = put_form_read(out, answer);
-    let after = chart_read(chart, taken, answer);
-    Answered { chart: after, size }
-}
-
-// A refused read does not change the chart.
-fn chart_read(chart: Chart, taken: Chart, answer: ReadAnswer) -> Chart
-    ensures { result ≡ after_read chart taken answer }
-{
-    match answer {
-        ReadAnswer::Done => taken,
-        ReadAnswer::Refused(_) => chart,
+    let size = put_form_read(out, r.answer);
+    Answered {
+        chart: chart_kept(chart, r),
+        size,
     }
 }
 
@@ -253,7 +254,7 @@ fn write(chart: Chart, out: &mut [u8]) -> usize
     let mut bytes = [0u8; FORM_MOST];
     let written = store::write(chart, &mut bytes);
     match written {
-        WriteAnswer::Done(size) => put_form(out, &bytes[..size]),
-        WriteAnswer::Refused(n) => put_refusal(out, n),
+        Ok(size) => put_form(out, &bytes[..size]),
+        Err(refusal) => put_refusal(out, refusal),
     }
 }

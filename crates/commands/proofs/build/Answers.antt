@@ -20,4 +20,4 @@ returns c =
     let is_kind_lem = c.kind_in_field.ensures ∙ ap kind_in_field found.number in
     let are_words = front_is c.put_words_at-n.ensures ∙ ap words_in found.rest in
     replies_build c.args.chart _ _ c.build-r.result (builds_same is_kind_lem are_words c.build-r.ensures)
-    c.chart_built-after.ensures (c.put_build-size.ensures _)
+    c.chart_kept.ensures (c.put_build-size.ensures _)

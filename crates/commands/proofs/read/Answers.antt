@@ -20,4 +20,4 @@ returns c =
     let bytes = front_is c.put_bytes_of_hex-n.ensures ∙ ap bytes_of_hex c.field_at-field.ensures.field in
     replies_read c.args.chart _ c.read-r.result
     (subst (λ (b : List ℕ). IsRead (reading b) c.read-r.result) bytes c.read-r.ensures)
-    c.chart_read-after.ensures (c.put_form_read-size.ensures _)
+    c.chart_kept.ensures (c.put_form_read-size.ensures _)

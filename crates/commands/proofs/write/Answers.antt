@@ -9,19 +9,19 @@ use Rattle.commands.proofs.write.Goals as goal
 
 pub slice_bounds-bytes-end : goal.slice_bounds-bytes-end
 slice_bounds-bytes-end c =
-    written_fits _ _ _ _ (rw c.in-Done.is at c.write-written.ensures)
+    written_fits _ _ _ _ (rw c.in-Ok.is at c.write-written.ensures)
 
 pub slice_bounds-put_form-end : goal.slice_bounds-put_form-end
 slice_bounds-put_form-end c =
-    written_count _ _ _ _ (rw c.in-Done.is at c.write-written.ensures)
+    written_count _ _ _ _ (rw c.in-Ok.is at c.write-written.ensures)
 
-pub returns-in-Done : goal.returns-in-Done
-returns-in-Done c =
-    form_replied _ _ _ _ (rw c.in-Done.is at c.write-written.ensures) c.put_form.ensures
+pub returns-in-Ok : goal.returns-in-Ok
+returns-in-Ok c =
+    form_replied _ _ _ _ (rw c.in-Ok.is at c.write-written.ensures) c.put_form.ensures
 
-pub returns-in-Refused : goal.returns-in-Refused
-returns-in-Refused c =
+pub returns-in-Err : goal.returns-in-Err
+returns-in-Err c =
     let base_places : length c.args.chart.base ≡ base_most = search rules in
     let series_places : length c.args.chart.series ≡ series_most = search rules in
     refusal_replied _ _ _ _ base_places series_places (search rules)
-    (rw c.in-Refused.is at c.write-written.ensures) c.put_refusal.ensures
+    (rw c.in-Err.is at c.write-written.ensures) c.put_refusal.ensures

@@ -1,9 +1,19 @@
 -- `commands::faults::read_fault` meets its contract.
-use mathlib.Core.Path.{◌∙◌}
-use Rattle.commands.proofs.FirstFault.{read_faults}
+use mathlib.Core.Path.{◌≡◌, sym, ap, ◌∙◌}
+use Rattle.std.proofs.Common.{rules}
+use Rattle.std.specs.Prelude.{Err}
+use Rattle.commands.specs.Command.{hex_fault, end_fault, read_fault}
 use Rattle.commands.proofs.faults.read_fault.Goals as goal
 
+pub returns-in_err-hex_fault : goal.returns-in_err-hex_fault
+unfolding read_fault
+returns-in_err-hex_fault c =
+    let same : c.from_residual.result ≡ Err c.in_err-hex_fault.field-0.0 = search rules in
+    let found = c.field_at-field.ensures in
+    rw (same, sym (c.in_err-hex_fault.ensures ∙ ap hex_fault found.field))
+
 pub returns : goal.returns
+unfolding read_fault
 returns c =
-    c.or_else.ensures
-    ∙ read_faults c.field_at-field.ensures c.hex_fault.ensures c.end_fault.ensures
+    let found = c.field_at-field.ensures in
+    rw (sym (c.in_ok-hex_fault.ensures ∙ ap hex_fault found.field)) (c.end_fault.ensures ∙ ap end_fault found.rest)

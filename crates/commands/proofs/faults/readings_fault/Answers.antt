@@ -1,20 +1,61 @@
--- `commands::faults::readings_fault` meets its contract.
-use mathlib.Core.Path.{◌∙◌, ap}
-use Rattle.commands.specs.Command.{or_else}
-use Rattle.commands.proofs.FirstFault.{readings_faults}
+-- `commands::faults::readings_fault` meets its contract: the first fault, if there is one, is that of the fields.
+use mathlib.Core.Path.{◌≡◌}
+use Rattle.std.proofs.Common.{rules}
+use Rattle.std.specs.Prelude.{Err}
+use Rattle.commands.specs.Command.{readings_fault}
+use Rattle.commands.proofs.FirstFault.{kind_found, first_reading, second_reading, third_reading, end_of_readings}
 use Rattle.commands.proofs.faults.readings_fault.Goals as goal
 
+pub returns-in_err-number_fault : goal.returns-in_err-number_fault
+unfolding readings_fault
+returns-in_err-number_fault c =
+    let same : c.from_residual.result ≡ Err c.in_err-number_fault.field-0.0 = search rules in
+    rw (
+      same,
+      kind_found c.number_field_at-kind.ensures c.in_err-number_fault.ensures,
+    )
+
+pub returns-in_err-reading_fault : goal.returns-in_err-reading_fault
+unfolding readings_fault
+returns-in_err-reading_fault c =
+    let same : c.from_residual-in_err-reading_fault.result ≡ Err c.in_err-reading_fault.field-0.0 = search rules in
+    rw (
+      same,
+      kind_found c.number_field_at-kind.ensures c.in_ok-number_fault.ensures,
+      first_reading c.number_field_at-kind.ensures c.number_field_at-a.ensures c.in_err-reading_fault.ensures,
+    )
+
+pub returns-in_err-reading_fault-2 : goal.returns-in_err-reading_fault-2
+unfolding readings_fault
+returns-in_err-reading_fault-2 c =
+    let same : c.from_residual-in_err-reading_fault-2.result ≡ Err c.in_err-reading_fault-2.field-0.0 = search rules in
+    rw (
+      same,
+      kind_found c.number_field_at-kind.ensures c.in_ok-number_fault.ensures,
+      first_reading c.number_field_at-kind.ensures c.number_field_at-a.ensures c.in_ok-reading_fault.ensures,
+      second_reading c.number_field_at-kind.ensures c.number_field_at-a.ensures c.number_field_at-b.ensures c.in_err-reading_fault-2.ensures,
+    )
+
+pub returns-in_err-reading_fault-3 : goal.returns-in_err-reading_fault-3
+unfolding readings_fault
+returns-in_err-reading_fault-3 c =
+    let same : c.from_residual-in_err-reading_fault-3.result ≡ Err c.in_err-reading_fault-3.field-0.0 = search rules in
+    rw (
+      same,
+      kind_found c.number_field_at-kind.ensures c.in_ok-number_fault.ensures,
+      first_reading c.number_field_at-kind.ensures c.number_field_at-a.ensures c.in_ok-reading_fault.ensures,
+      second_reading c.number_field_at-kind.ensures c.number_field_at-a.ensures c.number_field_at-b.ensures c.in_ok-reading_fault-2.ensures,
+      third_reading c.number_field_at-kind.ensures c.number_field_at-a.ensures c.number_field_at-b.ensures c.number_field_at-c.ensures c.in_err-reading_fault-3.ensures,
+    )
+
 pub returns : goal.returns
+unfolding readings_fault
 returns c =
-    c.or_else.ensures
-    ∙ ap (or_else c.field_fault-4.result)
-    (c.or_else-fault_behind_kind.ensures
-    ∙ ap (or_else c.field_fault-3.result)
-    (c.or_else-fault_behind_a.ensures ∙ ap (or_else c.field_fault-2.result) c.or_else-fault_behind_b.ensures))
-    ∙ readings_faults c.number_field_at-kind.ensures c.number_field_at-a.ensures
-    c.number_field_at-b.ensures c.number_field_at-c.ensures
-    c.field_fault-4.ensures
-    c.field_fault-3.ensures
-    c.field_fault-2.ensures
-    c.field_fault.ensures
-    c.end_fault.ensures
+    rw (
+      kind_found c.number_field_at-kind.ensures c.in_ok-number_fault.ensures,
+      first_reading c.number_field_at-kind.ensures c.number_field_at-a.ensures c.in_ok-reading_fault.ensures,
+      second_reading c.number_field_at-kind.ensures c.number_field_at-a.ensures c.number_field_at-b.ensures c.in_ok-reading_fault-2.ensures,
+      third_reading c.number_field_at-kind.ensures c.number_field_at-a.ensures c.number_field_at-b.ensures c.number_field_at-c.ensures c.in_ok-reading_fault-3.ensures,
+      end_of_readings c.number_field_at-kind.ensures c.number_field_at-a.ensures c.number_field_at-b.ensures c.number_field_at-c.ensures
+          c.end_fault.ensures,
+    )
