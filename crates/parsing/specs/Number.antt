@@ -1,9 +1,10 @@
 -- Numbers in decimal: an optional minus sign, and one digit or more. What a number stands for as a kind, as a word and as a reading.
 use Rattle.std.specs.Prelude.{Bool, true, false, ◌&&◌, not, List, [], ◌∷◌, ℕ, ◌+◌, ◌*◌, ◌-◌, ◌^◌, length, eqb, leb, ltb, ℤ, pos, negsuc, neg_ℤ, nat_abs}
+use Rattle.std.specs.Prelude.{Result, Ok, Err}
 use Rattle.std.specs.Int.Signed.{le_z}
 use Rattle.rules.specs.Choice.{require, choose}
-use Rattle.parsing.specs.declared.numbers.Number.{Number}
-use Rattle.parsing.specs.declared.numbers.Number.TheVariants as number
+use Rattle.parsing.specs.declared.numbers.NumberFault.{NumberFault}
+use Rattle.parsing.specs.declared.numbers.NumberFault.TheVariants as fault
 use Rattle.parsing.specs.Bytes.{all_bytes}
 
 -- '0' to '9'
@@ -44,11 +45,11 @@ unfoldable pub number_in_field : List ℕ → FieldNumber
 number_in_field [] = no_number
 number_in_field (b ∷ rest) = choose (eqb b 45) (digits_number true rest) (digits_number false (b ∷ rest))
 
--- what the cases of the program's number say
-unfoldable pub number_says : Number → FieldNumber
-number_says number.NoNumber = no_number
-number_says number.Beyond = beyond
-number_says (number.Whole z) = whole z
+-- what the program's number, or the fault in its place, says
+unfoldable pub number_says : Result ℤ NumberFault → FieldNumber
+number_says (Err fault.NoNumber) = no_number
+number_says (Err fault.Beyond) = beyond
+number_says (Ok z) = whole z
 
 -- ---- what a number stands for
 

@@ -3,70 +3,57 @@ ghost use Rattle.std.specs.Prelude.{◌≡◌, true, ◌+◌, ◌*◌, ◌-◌, 
 ghost use Rattle.parsing.specs.Number.{is_digit, are_digits, value_of, value_most, signed_value, digits_number, number_in_field};
 ghost use Rattle.parsing.specs.Number.{number_says, number_within, kind_in_field, word_in_field, reading_in_field};
 
-// 2^63, and the least number that fits signed 64 bits with neither sign.
-const SIGN_BIT: u64 = 9223372036854775808;
-
+// 2^63 + 1, the least number that fits signed 64 bits with neither sign.
 const VALUE_MOST: u64 = 9223372036854775809;
 
-// What a field holds.
-#[derive(Clone, Copy)]
-pub enum Number {
+// Why a field holds no number of signed 64 bits.
+#[derive(Clone, Copy, Debug, PartialEq, Eq)]
+pub enum NumberFault {
     NoNumber,
     // A number that does not fit signed 64 bits.
     Beyond,
-    Whole(i64),
 }
 
-pub fn number_in_field(text: &[u8]) -> Number
+pub fn number_in_field(text: &[u8]) -> Result<i64, NumberFault>
     ensures { number_says result ≡ number_in_field text.now }
 {
     match text {
-        [] => Number::NoNumber,
+        [] => Err(NumberFault::NoNumber),
         [b'-', digits @ ..] => digits_number(true, digits),
         _ => digits_number(false, text),
     }
 }
 
-pub fn kind_in_field(n: Number) -> u16
+pub fn kind_in_field(n: Result<i64, NumberFault>) -> u16
     ensures { result ≡ kind_in_field (number_says n) }
 {
-    number_within(n, 0, 65535, 0) as u16
+    match n {
+        Ok(z) => u16::try_from(z).unwrap_or(0),
+        Err(_) => 0,
+    }
 }
 
-pub fn word_in_field(n: Number) -> i16
+pub fn word_in_field(n: Result<i64, NumberFault>) -> i16
     ensures { result ≡ word_in_field (number_says n) }
 {
-    number_within(n, -32768, 32767, 32767) as i16
+    match n {
+        Ok(z) => i16::try_from(z).unwrap_or(i16::MAX),
+        Err(_) => i16::MAX,
+    }
 }
 
-pub fn reading_in_field(n: Number) -> i64
+pub fn reading_in_field(n: Result<i64, NumberFault>) -> i64
     ensures { result ≡ reading_in_field (number_says n) }
 {
-    let Number::Whole(z) = n else {
-        return 0;
-    };
-    z
-}
-
-// A number of low..high. Anything else counts as `otherwise`.
-fn number_within(n: Number, low: i64, high: i64, otherwise: i64) -> i64
-    ensures { result ≡ number_within low high otherwise (number_says n) }
-{
-    let Number::Whole(z) = n else {
-        return otherwise;
-    };
-    if (low <= z) & (z <= high) {
-        return z;
-    }
-    otherwise
+    n.unwrap_or(0)
 }
 
 // The number that digits denote, with the sign that stood before them.
-fn digits_number(negative: bool, digits: &[u8]) -> Number
+fn digits_number(negative: bool, digits: &[u8]) -> Result<i64, NumberFault>
     ensures { number_says result ≡ digits_number negative digits.now }
 {
     if !are_digits(digits) {
-        return Number::NoNumber;
+        return Err(NumberFault::NoNumber);
     }
     signed_number(negative, value_of(digits))
 }
@@ -109,22 +96,12 @@ fn with_digit(n: u64, d: u8) -> u64
         .min(VALUE_MOST)
 }
 
-// n with a sign. A number z below 0 is `!` of |z| − 1.
-fn signed_number(negative: bool, n: u64) -> Number
+// n with a sign.
+fn signed_number(negative: bool, n: u64) -> Result<i64, NumberFault>
     ensures { number_says result ≡ signed_value negative n }
 {
-    if !negative {
-        if SIGN_BIT <= n {
-            return Number::Beyond;
-        }
-        return Number::Whole(n as i64);
+    if negative {
+        return 0i64.checked_sub_unsigned(n).ok_or(NumberFault::Beyond);
     }
-    if SIGN_BIT < n {
-        return Number::Beyond;
-    }
-    if n == 0 {
-        return Number::Whole(0);
-    }
-    let y = (n - 1) as i64;
-    Number::Whole(!y)
+    i64::try_from(n).ok().ok_or(NumberFault::Beyond)
 }

@@ -1,30 +1,18 @@
 -- `parsing::numbers::word_in_field` meets its contract.
-use mathlib.Core.Path.{◌≡◌, refl, ◌∙◌}
-use borrow.Author.Rules.{sfits_of}
-use lib.IntN.{pos, negsuc}
+use mathlib.Core.Path.{◌∙◌}
+use Prim.Native.Nat.{◌<◌, ◌^◌}
+use borrow.Author.Rules.{rules, sfits_of}
+use lib.Signed.{mag}
 use mir.Syntax.{w16, w64}
-use mir.Val.{SFits, to_z, of_z}
 use mir.Facts.{to_z-of_z}
-use Rattle.parsing.specs.Number.{number_says, word_in_field}
-use Rattle.parsing.proofs.Signed.{counts_within, fits_word}
+use Rattle.parsing.proofs.Signed.{word_held, fault_held}
 use Rattle.parsing.proofs.numbers.word_in_field.Goals as goal
 
-pub overflow_cast-result : goal.overflow_cast-result
-unfolding word_in_field
-overflow_cast-result c =
-    let is_word_lem : to_z w64 (of_z w64 c.number_within.result) ≡ word_in_field (number_says c.args.n) =
-    to_z-of_z {w = w64} (sfits_of c.number_within.type_inv) ∙ c.number_within.ensures in
-    let fits : SFits w16 (word_in_field (number_says c.args.n)) =
-    let number = number_says c.args.n in fits_word _ (counts_within (negsuc 32767) (pos 32767) (pos 32767) number
-    (record { least = refl; most = refl })) in
-    rw (is_word_lem) (fits)
+pub returns-in-Ok : goal.returns-in-Ok
+returns-in-Ok c =
+    let small : mag c.in-Ok.z < 2 ^ 63 = search rules in
+    let word = word_held c.in-Ok.z _ (rw (to_z-of_z {w = w64} (record { sfits = small })) at c.try_from.ensures) in
+    rw (c.in-Ok.is, to_z-of_z {w = w16} (sfits_of c.unwrap_or.type_inv)) (c.unwrap_or.ensures ∙ word)
 
-pub returns : goal.returns
-unfolding word_in_field
-returns c =
-    let is_word_lem : to_z w64 (of_z w64 c.number_within.result) ≡ word_in_field (number_says c.args.n) =
-    to_z-of_z {w = w64} (sfits_of c.number_within.type_inv) ∙ c.number_within.ensures in
-    let fits : SFits w16 (word_in_field (number_says c.args.n)) =
-    let number = number_says c.args.n in fits_word _ (counts_within (negsuc 32767) (pos 32767) (pos 32767) number
-    (record { least = refl; most = refl })) in
-    rw (is_word_lem) (to_z-of_z (fits))
+pub returns-in-Err : goal.returns-in-Err
+returns-in-Err c = rw c.in-Err.is (fault_held c.in-Err.field-0).1
