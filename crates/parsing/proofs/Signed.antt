@@ -1,5 +1,5 @@
--- Numbers with a sign: a sign and a natural number as signed 64 bits (`held_negative`, `held_positive`), how the program reads the first byte
--- of a field (`no_byte`, `minus_sign`, `no_sign`), and what a number stands for (`reading_held`, `kind_held`, `word_held`).
+-- Numbers with a sign: a sign and a natural number as signed 64 bits (`held_negative`, `held_positive`), how the program reads the first
+-- byte of a field (`no_byte`, `minus_sign`, `no_sign`), and what a number stands for (`reading_held`, `kind_held`, `word_held`).
 use mathlib.Core.Path.{◌≡◌, refl}
 use mathlib.Core.Bool.{true, false}
 use mathlib.Core.List.{List, [], ◌∷◌}

@@ -13,6 +13,7 @@ use Rattle.std.specs.List.{list_all}
 use Rattle.rules.proofs.Booleans.{both, zero_not_one, same_outcome}
 use Rattle.parsing.specs.Bytes.{all_bytes, same_bytes}
 use Rattle.parsing.specs.Number.{is_digit, are_digits}
+use Rattle.parsing.specs.Hex.{is_lower_hex, is_upper_hex}
 
 -- ---- a byte between two others
 
@@ -28,6 +29,21 @@ in_range_lem {low} {high} {b} t =
 pub digit_range : {b : ℕ} → is_digit b ≡ true → InRange 48 57 b
 unfolding is_digit
 digit_range t = in_range_lem t
+
+-- the digits of either kind by their ranges
+pub digit_by : (b : ℕ) → is_digit b ≡ (leb 48 b && leb b 57)
+unfolding is_digit
+digit_by b = refl
+
+pub lower_by : (b : ℕ) → is_lower_hex b ≡ (leb 97 b && leb b 102)
+unfolding is_lower_hex
+lower_by b = refl
+
+pub upper_by : (b : ℕ) → is_upper_hex b ≡ (leb 65 b && leb b 70)
+unfolding is_upper_hex
+upper_by b = refl
+
+pub ruleset hex_ranges = (digit_by, lower_by, upper_by)
 
 -- ---- every byte passes a test
 

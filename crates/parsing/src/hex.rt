@@ -20,14 +20,14 @@ pub fn put_bytes_of_hex(text: &[u8], bytes: &mut [u8]) -> usize
     text.len() / 2
 }
 
-#[tactic(auto, unfolding(crate::specs::Hex::is_hex, crate::specs::Hex::is_lower_hex, crate::specs::Hex::is_upper_hex, crate::specs::Number::is_digit))]
+#[tactic(auto, using(crate::proofs::Tests::hex_ranges), unfolding(crate::specs::Hex::is_hex))]
 fn is_hex(b: u8) -> bool
     ensures { result ≡ is_hex b }
 {
     b.is_ascii_hexdigit()
 }
 
-#[tactic(auto, unfolding(crate::specs::Hex::hex_value, crate::specs::Hex::is_lower_hex, crate::specs::Hex::is_upper_hex, crate::specs::Number::is_digit))]
+#[tactic(auto, using(crate::proofs::Tests::hex_ranges), unfolding(crate::specs::Hex::hex_value))]
 fn hex_value(b: u8) -> u8
     ensures { IsHexValue b result }
 {
