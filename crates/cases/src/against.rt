@@ -36,10 +36,8 @@ fn built(kind: u16, base: &[i16], words: &[i16]) {
 }
 
 fn each_word(chart: Chart, words: &[i16]) {
-    let mut i: usize = 0;
-    while i < words.len() {
-        one_word(chart, words[i]);
-        i += 1;
+    for word in words {
+        one_word(chart, *word);
     }
 }
 

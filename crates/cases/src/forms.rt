@@ -76,11 +76,9 @@ fn write_into(chart: Chart, lent: &mut [u8]) {
 
 // A blank and two hex digits for each byte.
 fn each_byte(bytes: &[u8]) {
-    let mut i: usize = 0;
-    while i < bytes.len() {
+    for byte in bytes {
         say::text(b" ");
-        io::print_hex(say::OUTPUT, bytes[i] as u64, 2);
-        i += 1;
+        io::print_hex(say::OUTPUT, *byte as u64, 2);
     }
 }
 

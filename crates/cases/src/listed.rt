@@ -119,10 +119,8 @@ fn answered(answer: RunAnswer) {
 
 // A blank and each number.
 fn each_number(numbers: &[i64]) {
-    let mut i: usize = 0;
-    while i < numbers.len() {
+    for number in numbers {
         say::text(b" ");
-        say::signed(numbers[i]);
-        i += 1;
+        say::signed(*number);
     }
 }

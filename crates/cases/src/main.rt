@@ -30,9 +30,7 @@ fn main() {
 
 // Puts the word into every place from `from` on.
 pub fn fill(words: &mut [i16], from: usize, word: i16) {
-    let mut i = from;
-    while i < words.len() {
-        words[i] = word;
-        i += 1;
+    for place in words.iter_mut().skip(from) {
+        *place = word;
     }
 }

@@ -28,11 +28,7 @@ pub fn sums_given(a: Chart) {
 // 0 ten times, and five words. Each of the first five rounds removes the word that is farthest from 0.
 fn one_a_round(kind: u16, five: [i16; 5]) {
     let mut words = [0; Chart::BASE_MOST];
-    words[10] = five[0];
-    words[11] = five[1];
-    words[12] = five[2];
-    words[13] = five[3];
-    words[14] = five[4];
+    words[10..15].copy_from_slice(&five);
     rounds_of(kind, words, 15);
 }
 

@@ -6,6 +6,9 @@ const INPUT: i32 = 0;
 
 pub const OUTPUT: i32 = 1;
 
+// The most bytes of a line of standard input.
+const LINE_MOST: usize = 100;
+
 pub fn text(bytes: &[u8]) {
     io::write_all(OUTPUT, bytes);
 }
@@ -26,19 +29,14 @@ pub fn heading() {
     end_of_line();
 }
 
-// Says the next line of standard input, without its line feed. No line has more than 100 bytes.
+// Says the next line of standard input, without its line feed.
 fn echo_line() {
     let mut byte = [0u8; 1];
-    let mut left: usize = 100;
-    while 0 < left {
-        if io::read_full(INPUT, &mut byte) == 0 {
-            return;
-        }
-        if byte[0] == b'\n' {
+    for _ in 0..LINE_MOST {
+        if io::read_full(INPUT, &mut byte) == 0 || byte[0] == b'\n' {
             return;
         }
         text(&byte);
-        left -= 1;
     }
 }
 
