@@ -15,7 +15,8 @@ use Rattle.rules.specs.Choice.{choose}
 use Rattle.rules.proofs.Integers.{by_order}
 use Rattle.rules.proofs.Choice.{choose_ind}
 use Rattle.rules.proofs.Booleans.{zero_not_one}
-use Rattle.parsing.specs.declared.numbers.Number.{Number}
+use Rattle.std.specs.Prelude.{Result}
+use Rattle.parsing.specs.declared.numbers.NumberFault.{NumberFault}
 use Rattle.parsing.specs.Fields.{is_blank, in_front, starting_with, fields_of, between, IsFirstField}
 use Rattle.parsing.specs.Number.{number_in_field, number_says, kind_in_field, reading_in_field}
 use Rattle.commands.specs.declared.numbers.NumberAt.{NumberAt}
@@ -122,7 +123,7 @@ field_found {line} {at} {start} {end} h field =
       rest = rw (← drop-drop end at line) (fields_behind field);
     }
 
-pub number_found : {line : List ℕ} {at start end : ℕ} {n : Number} → IsFieldAt line at start end
+pub number_found : {line : List ℕ} {at start end : ℕ} {n : Result ℤ NumberFault} → IsFieldAt line at start end
     → number_says n ≡ number_in_field (between start end line)
     → IsNumberAt line at (record { present = ltb start end; number = n; next = end })
 unfolding first_number

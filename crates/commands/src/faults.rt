@@ -7,7 +7,7 @@ ghost use Rattle.commands.specs.Answers.{fields_from, fault_at};
 use crate::names::{Change, Inquiry, Name};
 use crate::numbers::{NumberAt, field_at, number_field_at};
 use parsing::hex::are_hex;
-use parsing::numbers::Number;
+use parsing::numbers::NumberFault;
 use replies::Fault;
 
 // The fault of the fields after a name.
@@ -143,10 +143,11 @@ fn field_fault(n: NumberAt, beyond: Result<(), Fault>) -> Result<(), Fault>
     if !n.present {
         return Err(Fault::MissingNumber);
     }
-    let number = n.number;
-    match number {
-        Number::NoNumber => Err(Fault::NotANumber),
-        Number::Beyond => beyond,
-        Number::Whole(_) => Ok(()),
+    match n.number {
+        Ok(_) => Ok(()),
+        Err(fault) => match fault {
+            NumberFault::NoNumber => Err(Fault::NotANumber),
+            NumberFault::Beyond => beyond,
+        },
     }
 }

@@ -140,10 +140,9 @@ fn build(chart: Chart, line: &[u8], at: usize, out: &mut [u8]) -> Answered
     ensures { Replies chart (asked (change_for change.Build (fields_from line.now at))) out.old out.new result }
 {
     let first = number_field_at(line, at);
-    let kind = first.number;
     let mut words = [0i16; LINE_MOST];
     let n = put_words_at(line, first.next, &mut words);
-    let r = Chart::build(kind_in_field(kind), &words[..n]);
+    let r = Chart::build(kind_in_field(first.number), &words[..n]);
     let size = put_build(out, r.answer);
     Answered {
         chart: chart_kept(chart, r),

@@ -5,14 +5,16 @@ ghost use Rattle.commands.specs.Command.{words_in};
 ghost use Rattle.commands.specs.Answers.{fields_from, IsFieldAt, IsNumberAt, AreReadings};
 
 use parsing::fields::{Field, first_field};
-use parsing::numbers::{Number, kind_in_field, number_in_field, reading_in_field, word_in_field};
+use parsing::numbers::{
+    NumberFault, kind_in_field, number_in_field, reading_in_field, word_in_field,
+};
 
 // The number in a field.
 #[derive(Clone, Copy)]
 pub struct NumberAt {
     // Whether there is a field.
     pub present: bool,
-    pub number: Number,
+    pub number: Result<i64, NumberFault>,
     // A byte from which the other fields follow.
     pub next: usize,
 }
@@ -63,15 +65,11 @@ pub fn readings_at(line: &[u8], at: usize) -> Readings
     let second = number_field_at(line, first.next);
     let third = number_field_at(line, second.next);
     let fourth = number_field_at(line, third.next);
-    let kind = first.number;
-    let a = second.number;
-    let b = third.number;
-    let c = fourth.number;
     Readings {
-        kind: kind_in_field(kind),
-        a: reading_in_field(a),
-        b: reading_in_field(b),
-        c: reading_in_field(c),
+        kind: kind_in_field(first.number),
+        a: reading_in_field(second.number),
+        b: reading_in_field(third.number),
+        c: reading_in_field(fourth.number),
     }
 }
 
@@ -83,8 +81,7 @@ pub fn put_words_at(line: &[u8], at: usize, words: &mut [i16]) -> usize
     let mut count: usize = 0;
     let mut n = number_field_at(line, at);
     while n.present {
-        let number = n.number;
-        words[count] = word_in_field(number);
+        words[count] = word_in_field(n.number);
         count += 1;
         n = number_field_at(line, n.next);
     }

@@ -8,17 +8,14 @@ pub returns-then-not-n : goal.returns-then-not-n
 unfolding fault_at
 returns-then-not-n c = rw (not-true c.args.n.present c.if-not-n.true)
 
+pub returns-in-Ok : goal.returns-in-Ok
+unfolding fault_at number_says
+returns-in-Ok c = rw (not-false c.args.n.present c.if-not-n.false, c.in-Ok.is)
+
 pub returns-in-NoNumber : goal.returns-in-NoNumber
 unfolding fault_at number_says
-returns-in-NoNumber c =
-    rw (not-false c.args.n.present c.if-not-n.false, c.in-NoNumber.is)
+returns-in-NoNumber c = rw (not-false c.args.n.present c.if-not-n.false, c.in-Err.is, c.in-NoNumber.is)
 
 pub returns-in-Beyond : goal.returns-in-Beyond
 unfolding fault_at number_says
-returns-in-Beyond c =
-    rw (not-false c.args.n.present c.if-not-n.false, c.in-Beyond.is)
-
-pub returns-in-Whole : goal.returns-in-Whole
-unfolding fault_at number_says
-returns-in-Whole c =
-    rw (not-false c.args.n.present c.if-not-n.false, c.in-Whole.is)
+returns-in-Beyond c = rw (not-false c.args.n.present c.if-not-n.false, c.in-Err.is, c.in-Beyond.is)
