@@ -12,19 +12,24 @@ use lib.Dec.{eqb, leb, lit≤}
 use Rattle.rules.specs.Outcome.{given, refused}
 use Rattle.rules.specs.Choice.{require}
 use Rattle.rules.specs.StoredForm.{stored_form, form_fits, writing, buffer_after}
-use Rattle.rules.proofs.Choice.{choose_ind}
+use Rattle.rules.proofs.Choice.{choose_ind, require_ind}
 use Rattle.rules.proofs.Buffer.{placed_none, front_fits, front_counted}
-use Rattle.rules.specs.ReadForm.{reading}
+use Rattle.rules.specs.ReadForm.{is_form, held_in, reading}
+use Rattle.rules.specs.Outcome as Reads
+use Rattle.rules.specs.State.{State}
+use Rattle.rules.specs.Soundness.{sound}
+use Rattle.rules.proofs.Outcome.{given_not_refused, same_refused}
 use Rattle.rules.proofs.Booleans.{zero_not_one}
 use Rattle.chart.specs.declared.Chart.{Chart}
 use Rattle.chart.specs.Chart.{state_of, chart_of}
 use Rattle.chart.specs.Soundness.{sound_chart}
 use Rattle.printing.proofs.Putting.{puts_within, puts_room}
-use Rattle.store.specs.declared.WriteAnswer.TheVariants.{Done, Refused}
-use Rattle.store.specs.declared.ReadAnswer.TheVariants as read
-use Rattle.store.specs.declared.ReadChart.{ReadChart}
+use Rattle.std.specs.Prelude.{Ok, Err}
+use Rattle.refusals.specs.Refusal.{refusal_number, result_says}
+use Rattle.refusals.specs.declared.Refusal.{Refusal}
+use Rattle.chart.specs.declared.Called.{Called}
 use Rattle.store.specs.Store.{read_says, chart_after_reading, IsRead}
-use Rattle.store.specs.Store.{write_says, answer_to_write, buffer_after_write, Writes}
+use Rattle.store.specs.Store.{answer_to_write, buffer_after_write, Writes}
 use Rattle.store.proofs.Returning.{written_placed, written_facts, written_form}
 use Rattle.commands.specs.declared.Answered.{Answered}
 use Rattle.commands.specs.Command.{line_in}
@@ -94,7 +99,7 @@ module _ (c : Chart) (held line : List ℕ) {out out' : List ℕ} (a : Answered)
   by_chart : (room : ℕ) → ending (on_chart c held) line room ≡ keeping a.chart held room (answer_to_line c (line_in line))
   by_chart room = rw (← answers.chart)
 
-  pub ends_written : {before after : List ℕ} (n : ℕ) (o : Outcome) → Writes a.chart before after (Done n)
+  pub ends_written : {before after : List ℕ} (n : ℕ) (o : Outcome) → Writes a.chart before after (Ok n)
       → o ≡ of_form held (take n after)
       → Ends (ending (on_chart c held) line (length before)) before after out out' (record { outcome = o; form = n; size = a.size })
   unfolding form_fits
@@ -110,12 +115,13 @@ module _ (c : Chart) (held line : List ℕ) {out out' : List ℕ} (a : Answered)
         whole = in_full;
       })
 
-  pub ends-declined : {before after : List ℕ} (n : ℕ) (o : Outcome) → Writes a.chart before after (Refused n) → o ≡ not_written n
+  pub ends-declined : {before after : List ℕ} (r : Refusal) (o : Outcome) → Writes a.chart before after (Err r)
+      → o ≡ not_written (refusal_number r)
       → Ends (ending (on_chart c held) line (length before)) before after out out' (record { outcome = o; form = 0; size = a.size })
-  unfolding write_says answer_to_write writing form_fits buffer_after_write buffer_after not_written
-  ends-declined {before} {after} n o w decided =
+  unfolding result_says answer_to_write writing form_fits buffer_after_write buffer_after not_written
+  ends-declined {before} {after} r o w decided =
       let text = answer_to_line c (line_in line) in
-      declined_by (sound_chart a.chart) (form_fits (state_of a.chart) before) (length (stored_form (state_of a.chart))) n w.says _
+      declined_by (sound_chart a.chart) (form_fits (state_of a.chart) before) (length (stored_form (state_of a.chart))) (refusal_number r) w.says _
       (λ unsound e.
       let same : after ≡ before = rw unsound at w.buffer in
       rw (by_chart (length before) ∙ not_sound a.chart held text (length before) unsound, same)
@@ -127,19 +133,30 @@ module _ (c : Chart) (held line : List ℕ) {out out' : List ℕ} (a : Answered)
 
 -- ---- what a command starts from
 
-module _ (held : List ℕ) (r : ReadChart) (is : IsRead (reading held) r) where
-  pub start_taken : r.answer ≡ read.Done → start_read held (reading held) ≡ on_chart r.chart held
+module _ (held : List ℕ) (r : Called (Unit {0})) (is : IsRead (reading held) r) where
+  pub start_taken : {u : Unit {0}} → r.answer ≡ Ok u → start_read held (reading held) ≡ on_chart r.chart held
   unfolding read_says chart_after_reading
   start_taken e =
       let says : given (state_of r.chart) ≡ reading held = rw e at is.says in
       let chart : r.chart ≡ chart_of (state_of r.chart) = is.chart ∙ ap chart_after_reading (sym says) in
       ap (start_read held) (sym says) ∙ ap (λ (c : Chart). on_chart c held) (sym chart)
 
-  pub start_declined : (n : ℕ) → r.answer ≡ read.Refused n → start_read held (reading held) ≡ fault n
+  pub start_declined : (refusal : Refusal) → r.answer ≡ Err refusal → start_read held (reading held) ≡ fault (refusal_number refusal)
   unfolding read_says
-  start_declined n e =
-      let says : refused n ≡ reading held = rw e at is.says in
+  start_declined refusal e =
+      let says : refused (refusal_number refusal) ≡ reading held = rw e at is.says in
       ap (start_read held) (sym says)
+
+-- reading refuses with 13 or 14
+pub reading_refusals : (bytes : List ℕ) (n : ℕ) → reading bytes ≡ refused n → (n ≡ 13 → ⊥) → n ≡ 14
+unfolding reading
+reading_refusals bytes =
+    let Only : Reads.Outcome State → Type 0 = λ answer. (n : ℕ) → answer ≡ refused n → (n ≡ 13 → ⊥) → n ≡ 14 in
+    require_ind Only (is_form bytes) (refused 13) _
+    (λ _. require_ind Only (sound (held_in bytes)) (refused 14) (given (held_in bytes))
+    (λ _ n e other. given_not_refused e)
+    (λ _ n e other. sym (same_refused e)))
+    (λ _ n e other. absurd (other (sym (same_refused e))))
 
 -- a line without a command, and one with a command
 module _ (held : Held) (line : List ℕ) {answer : Bool} (tested : answer ≡ has_command line) where

@@ -16,12 +16,11 @@ use Rattle.parsing.specs.Fields.{fields_of, IsFirstField}
 use Rattle.parsing.proofs.Tests.{same_equal}
 use Rattle.printing.specs.Ascii.{ascii}
 use Rattle.replies.specs.declared.Fault.TheVariants as faults
-use Rattle.commands.specs.declared.faults.Finding.{Finding}
-use Rattle.commands.specs.declared.faults.Finding.TheVariants as finding
 use Rattle.commands.specs.declared.names.Change.TheVariants as change
 use Rattle.commands.specs.declared.names.Name.{Name}
 use Rattle.commands.specs.declared.names.Name.TheVariants as name
-use Rattle.commands.specs.Command.{Line, passed_over, faulty, line_most, is_comment, first_field, name_in, fault_for, command_for}
+use Rattle.std.specs.Prelude.{Ok, Err}
+use Rattle.commands.specs.Command.{Finding, Line, passed_over, faulty, line_most, is_comment, first_field, name_in, fault_for, command_for}
 use Rattle.commands.specs.Command.{unless_faulty, named_line, line_of, line_in, is_build}
 use Rattle.commands.specs.Reply.{chart_after_line}
 use Rattle.commands.proofs.Replying.{inquiry_leaves}
@@ -49,8 +48,8 @@ command_reads (name.Asks inquiry) fields c e = inquiry_leaves c inquiry fields
 command_reads name.Other fields c e = refl
 
 unless_faulty_lem : (found : Finding) (line : Line) (c : Chart) → chart_after_line c line ≡ c → chart_after_line c (unless_faulty found line) ≡ c
-unless_faulty_lem finding.NoFault line c e = e
-unless_faulty_lem (finding.Is fault) line c e = refl
+unless_faulty_lem (Ok _) line c e = e
+unless_faulty_lem (Err fault) line c e = refl
 
 fields_read : (fields : List (List ℕ)) (c : Chart) → changes (name_in (first_field fields)) ≡ false → chart_after_line c (line_of fields) ≡ c
 unfolding line_of named_line

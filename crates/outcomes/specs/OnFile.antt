@@ -1,7 +1,7 @@
 -- One command on the chart in a file. The file's bytes and the command's line decide what becomes of the file, and what is said.
 -- `proofs/Files` proves: the bytes of a changed file are the stored form of the chart after the command. A file that does not change holds
 -- that form already, if that chart is sound. A refused build makes no file.
-use Rattle.std.specs.Prelude.{◌≡◌, Bool, true, false, List, [], ◌++◌, ℕ, ◌≤◌, length, take, eqb, leb}
+use Rattle.std.specs.Prelude.{◌≡◌, List, [], ◌++◌, ℕ, ◌≤◌, length, take, eqb, leb, Option, Some, None}
 use Rattle.rules.specs.Outcome.{given, refused}
 use Rattle.rules.specs.Outcome as rules
 use Rattle.rules.specs.State.{State}
@@ -20,6 +20,8 @@ use Rattle.commands.specs.Reply.{chart_after_line, answer_to_line, answer_most}
 use Rattle.outcomes.specs.declared.Outcome.{Outcome}
 use Rattle.outcomes.specs.declared.Outcome.TheVariants as outcome
 use Rattle.outcomes.specs.declared.OnFile.{OnFile}
+use Rattle.outcomes.specs.declared.FileFault.{FileFault}
+use Rattle.outcomes.specs.declared.FileFault.TheVariants as faults
 use Rattle.outcomes.specs.Naming.{has_command}
 
 -- ---- what a command starts from
@@ -29,10 +31,10 @@ pub data Held : Type 0 where
   no_file : Held
   bytes : List ℕ → Held
 
--- the program has it as two values: whether there is a file, and its bytes
-abbrev pub held_in : Bool → List ℕ → Held
-held_in true held = bytes held
-held_in false held = no_file
+-- the program has the file's bytes, if there is a file
+abbrev pub held_in : Option (List ℕ) → Held
+held_in (Some held) = bytes held
+held_in None = no_file
 
 -- a chart, and the bytes that the file holds for it; or a fault, by its number
 pub data Start : Type 0 where
@@ -45,6 +47,13 @@ no_command = 1
 
 abbrev pub no_such_file : ℕ
 no_such_file = 2
+
+-- the number of the program's fault
+unfoldable pub fault_number : FileFault → ℕ
+fault_number faults.NoCommand = no_command
+fault_number faults.NoFile = no_such_file
+fault_number faults.NoStoredForm = 13
+fault_number faults.NotSound = 14
 
 abbrev pub start_read : List ℕ → rules.Outcome State → Start
 start_read held (given s) = on_chart (chart_of s) held

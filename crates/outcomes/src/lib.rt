@@ -5,17 +5,17 @@
 pub mod names;
 pub mod status;
 
-ghost use Rattle.std.specs.Prelude.{◌≡◌, length};
-ghost use Rattle.printing.specs.Output.{Puts};
+ghost use Rattle.std.specs.Prelude.{◌≡◌, length, option_copied};
+ghost use Rattle.refusals.specs.Refusal.{refusal_number};
 ghost use Rattle.outcomes.specs.OnFile.{bytes, no_file, held_in, on_chart, start_from, start_of, ending, Ends, IsFault, Counts};
-ghost use Rattle.outcomes.specs.OnFile.{fault_text, of_form, not_written};
+ghost use Rattle.outcomes.specs.OnFile.{fault_number, fault_text, of_form, not_written};
 
 use chart::{Chart, zero_chart};
 use commands::{answer_line, is_build};
 use names::has_command;
 use parsing::fields::same_bytes;
 use printing::put_text;
-use store::{ReadAnswer, WriteAnswer};
+use refusals::Refusal;
 
 #[derive(Clone, Copy)]
 pub enum Outcome {
@@ -37,25 +37,33 @@ pub struct OnFile {
     pub size: usize,
 }
 
-// The faults that are not refusals of reading; those are 13 and 14.
-const NO_COMMAND: u16 = 1;
+// What is wrong with the line or the file.
+#[derive(Clone, Copy, Debug, PartialEq, Eq)]
+pub enum FileFault {
+    // The line has no command.
+    NoCommand,
+    // There is no file, and the command is not `build`.
+    NoFile,
+    // The file's bytes are not a stored form.
+    NoStoredForm,
+    // The chart in the file is not sound.
+    NotSound,
+}
 
-const NO_FILE: u16 = 2;
-
-// One command on the chart in a file. It takes whether there is a file, the file's bytes, and the command's line. Buffers of `FORM_MOST`
-// and of `ANSWER_MOST` bytes have room for every form and every text.
-pub fn on_file(there: bool, held: &[u8], line: &[u8], form: &mut [u8], out: &mut [u8]) -> OnFile
-    ensures ends { Ends (ending (start_of (held_in there held.now) line.now) line.now (length form.old)) form.old form.new out.old out.new result }
+// One command on the chart in a file. It takes the file's bytes, if there is a file, and the command's line. Buffers of `FORM_MOST` and of
+// `ANSWER_MOST` bytes have room for every form and every text.
+pub fn on_file(held: Option<&[u8]>, line: &[u8], form: &mut [u8], out: &mut [u8]) -> OnFile
+    ensures ends { Ends (ending (start_of (held_in (option_copied held.entry)) line.now) line.now (length form.old)) form.old form.new out.old out.new result }
     ensures form_counted { Counts result.form form.new }
     ensures text_counted { Counts result.size out.new }
 {
     if !has_command(line) {
-        return fault(NO_COMMAND, out);
+        return fault(FileFault::NoCommand, out);
     }
-    if there {
-        return on_bytes(held, line, form, out);
+    match held {
+        Some(bytes) => on_bytes(bytes, line, form, out),
+        None => on_no_file(line, form, out),
     }
-    on_no_file(line, form, out)
 }
 
 // There is no file: `build` makes it.
@@ -65,7 +73,7 @@ fn on_no_file(line: &[u8], form: &mut [u8], out: &mut [u8]) -> OnFile
     if is_build(line) {
         return on_chart(zero_chart(), &[], line, form, out);
     }
-    fault(NO_FILE, out)
+    fault(FileFault::NoFile, out)
 }
 
 // There is a file with these bytes. They have to be a stored chart: `build` replaces no other file.
@@ -73,11 +81,13 @@ fn on_bytes(held: &[u8], line: &[u8], form: &mut [u8], out: &mut [u8]) -> OnFile
     ensures { Ends (ending (start_from (bytes held.now) line.now) line.now (length form.old)) form.old form.new out.old out.new result }
 {
     let read = store::read(held);
-    let chart = read.chart;
-    let answer = read.answer;
-    match answer {
-        ReadAnswer::Done => on_chart(chart, held, line, form, out),
-        ReadAnswer::Refused(number) => fault(number, out),
+    match read.answer {
+        Ok(()) => on_chart(read.chart, held, line, form, out),
+        // Reading refuses with 13 and 14 only.
+        Err(refusal) => match refusal {
+            Refusal::NoStoredForm => fault(FileFault::NoStoredForm, out),
+            _ => fault(FileFault::NotSound, out),
+        },
     }
 }
 
@@ -86,26 +96,18 @@ fn on_chart(chart: Chart, held: &[u8], line: &[u8], form: &mut [u8], out: &mut [
     ensures { Ends (ending (on_chart chart held.now) line.now (length form.old)) form.old form.new out.old out.new result }
 {
     let answered = answer_line(chart, line, out);
-    let after = answered.chart;
-    let size = answered.size;
-    let written = store::write(after, form);
+    let written = store::write(answered.chart, form);
     match written {
-        WriteAnswer::Done(n) => {
-            let outcome = of_form(held, &form[..n]);
-            OnFile {
-                outcome,
-                form: n,
-                size,
-            }
-        }
-        WriteAnswer::Refused(number) => {
-            let outcome = not_written(number);
-            OnFile {
-                outcome,
-                form: 0,
-                size,
-            }
-        }
+        Ok(n) => OnFile {
+            outcome: of_form(held, &form[..n]),
+            form: n,
+            size: answered.size,
+        },
+        Err(refusal) => OnFile {
+            outcome: not_written(refusal),
+            form: 0,
+            size: answered.size,
+        },
     }
 }
 
@@ -120,45 +122,39 @@ fn of_form(held: &[u8], form: &[u8]) -> Outcome
 }
 
 // A chart that is not sound (14) is not kept. A refused build leaves the chart of zeros, which is not sound, if there was no file.
-fn not_written(number: u16) -> Outcome
-    ensures { result ≡ not_written number }
+fn not_written(refusal: Refusal) -> Outcome
+    ensures { result ≡ not_written (refusal_number refusal) }
 {
-    if number == 14 {
-        return Outcome::Answered;
+    match refusal {
+        Refusal::NotSound => Outcome::Answered,
+        _ => Outcome::NoRoom,
     }
-    Outcome::NoRoom
 }
 
-fn fault(number: u16, out: &mut [u8]) -> OnFile
-    ensures { IsFault number out.old out.new result }
+fn fault(fault: FileFault, out: &mut [u8]) -> OnFile
+    ensures { IsFault (fault_number fault) out.old out.new result }
 {
-    let size = put_file_fault(out, number);
     OnFile {
         outcome: Outcome::Fault,
         form: 0,
-        size,
+        size: put_text(out, 0, fault.text()),
     }
 }
 
-fn put_file_fault(out: &mut [u8], number: u16) -> usize
-    ensures { Puts out.old 0 (fault_text number) out.new result }
-{
-    match number {
-        1 => put_text(
-            out,
-            0,
-            b"missing command; control_chart help lists the commands",
-        ),
-        2 => put_text(out, 0, b"there is no such file; build makes it"),
-        13 => put_text(
-            out,
-            0,
-            b"it holds no stored chart (refused 13); check the name, or take the last good copy; to build anew, move it away first",
-        ),
-        _ => put_text(
-            out,
-            0,
-            b"the chart in it is not sound (refused 14); if an older version left it open, close it with that version, else take the last good copy; to build anew, move it away first",
-        ),
+impl FileFault {
+    // What is wrong, and what to do.
+    fn text(self) -> &'static [u8]
+        ensures { result.now ≡ fault_text (fault_number self) }
+    {
+        match self {
+            FileFault::NoCommand => b"missing command; control_chart help lists the commands",
+            FileFault::NoFile => b"there is no such file; build makes it",
+            FileFault::NoStoredForm => {
+                b"it holds no stored chart (refused 13); check the name, or take the last good copy; to build anew, move it away first"
+            }
+            FileFault::NotSound => {
+                b"the chart in it is not sound (refused 14); if an older version left it open, close it with that version, else take the last good copy; to build anew, move it away first"
+            }
+        }
     }
 }

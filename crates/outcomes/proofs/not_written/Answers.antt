@@ -1,12 +1,16 @@
 -- `outcomes::not_written` meets its contract.
-use borrow.Author.Tests.{eq-eqb, ne_eqb}
+use borrow.Author.Tests.{ne_eqb}
+use Rattle.refusals.specs.Refusal.{refusal_number}
+use Rattle.refusals.specs.declared.Refusal.TheVariants.{NotSound}
+use Rattle.refusals.proofs.Numbers.{same_refusal}
 use Rattle.outcomes.specs.OnFile.{not_written}
 use Rattle.outcomes.proofs.not_written.Goals as goal
 
-pub returns-then-number-eq14 : goal.returns-then-number-eq14
-unfolding not_written
-returns-then-number-eq14 c = rw (eq-eqb _ _ c.if-number-eq14.true)
+pub returns-in-NotSound : goal.returns-in-NotSound
+unfolding not_written refusal_number
+returns-in-NotSound c = rw c.in-NotSound.is
 
-pub returns : goal.returns
-unfolding not_written
-returns c = rw (ne_eqb _ _ c.if-number-eq14.false)
+pub returns-in_default : goal.returns-in_default
+unfolding not_written refusal_number
+returns-in_default c =
+    rw (ne_eqb (refusal_number c.args.refusal) 14 (λ e. c.in_default.not-NotSound (same_refusal c.args.refusal NotSound e)))
