@@ -1,7 +1,7 @@
 // One command on the chart that a file holds. `outcomes::on_file` decides what the command comes to; here only bytes are moved. If the
 // command may change the chart, the order is this: the lock is made, the file is read, the command is done, the lock is filled and renamed
 // over the file, and then the answer is said.
-ghost use Rattle.std.specs.Prelude.{◌+◌};
+ghost use Rattle.std.specs.Prelude.{◌+◌, option_copied};
 ghost use Rattle.store.specs.Store.{form_most};
 ghost use Rattle.outcomes.specs.OnFile.{held_in, start_of, ending};
 ghost use Rattle.control_chart.specs.Status.{StatusBy, StatusAfter, StatusOfEnding};
@@ -50,21 +50,19 @@ fn is_command_alone(rt: HostRuntime, path: &[u8]) -> bool {
 fn look_at_file(rt: HostRuntime, path: &[u8], line: &[u8]) -> u8 {
     let mut held = [0u8; FILE_ROOM];
     match read_file(rt, path, &mut held) {
-        Ok(Some(read)) => say_look(rt, path, true, &held[..read.len], line),
-        Ok(None) => say_look(rt, path, false, b"", line),
+        Ok(Some(read)) => say_look(rt, path, Some(&held[..read.len]), line),
+        Ok(None) => say_look(rt, path, None, line),
         Err(reason) => failure(rt, path, b"it cannot be read", reason),
     }
 }
 
-fn say_look(rt: HostRuntime, path: &[u8], there: bool, held: &[u8], line: &[u8]) -> u8
-    ensures { StatusOfEnding (ending (start_of (held_in there held.now) line.now) line.now (form_most + 1)) result }
+fn say_look(rt: HostRuntime, path: &[u8], held: Option<&[u8]>, line: &[u8]) -> u8
+    ensures { StatusOfEnding (ending (start_of (held_in (option_copied held.entry)) line.now) line.now (form_most + 1)) result }
 {
     let mut form = [0u8; FILE_ROOM];
     let mut out = [0u8; ANSWER_MOST];
-    let r = on_file(there, held, line, &mut form, &mut out);
-    let size = r.size;
-    let outcome = r.outcome;
-    say_outcome(rt, path, outcome, &out[..size])
+    let r = on_file(held, line, &mut form, &mut out);
+    say_outcome(rt, path, r.outcome, &out[..r.size])
 }
 
 // Says what a command comes to whose file stays as it is. The last two arms are never reached. A command that may not change the chart
@@ -146,11 +144,10 @@ fn change_locked(rt: HostRuntime, path: &[u8], lock: &[u8], file: &File, line: &
             lock,
             file,
             Some(read.permissions),
-            true,
-            &held[..read.len],
+            Some(&held[..read.len]),
             line,
         ),
-        Ok(None) => change_held(rt, path, lock, file, None, false, b"", line),
+        Ok(None) => change_held(rt, path, lock, file, None, None, line),
         Err(reason) => {
             failure(
                 rt,
@@ -170,23 +167,27 @@ fn change_held(
     lock: &[u8],
     file: &File,
     permissions: Option<Permissions>,
-    there: bool,
-    held: &[u8],
+    held: Option<&[u8]>,
     line: &[u8],
 ) -> u8
-    ensures { StatusOfEnding (ending (start_of (held_in there held.now) line.now) line.now (form_most + 1)) result }
+    ensures { StatusOfEnding (ending (start_of (held_in (option_copied held.entry)) line.now) line.now (form_most + 1)) result }
 {
     let mut form = [0u8; FILE_ROOM];
     let mut out = [0u8; ANSWER_MOST];
-    let r = on_file(there, held, line, &mut form, &mut out);
-    let n = r.form;
-    let size = r.size;
-    let outcome = r.outcome;
-    match outcome {
-        Outcome::Changed => keep(rt, path, lock, file, permissions, &form[..n], &out[..size]),
-        _ => {
+    let r = on_file(held, line, &mut form, &mut out);
+    match r.outcome {
+        Outcome::Changed => keep(
+            rt,
+            path,
+            lock,
+            file,
+            permissions,
+            &form[..r.form],
+            &out[..r.size],
+        ),
+        outcome => {
             release(rt, lock, file);
-            say_outcome(rt, path, outcome, &out[..size])
+            say_outcome(rt, path, outcome, &out[..r.size])
         }
     }
 }
