@@ -6,8 +6,6 @@ use Rattle.rules.specs.Outcome as outcome
 use Rattle.rules.specs.Building.{BuiltState}
 use Rattle.rules.specs.Machine.{Answer, judged, reanalysed, corrected, renewed, refused}
 use Rattle.chart_c.specs.declared.answers.Parts.{Parts}
-use Rattle.chart_c.specs.declared.answers.CallAnswer.{CallAnswer}
-use Rattle.chart_c.specs.declared.answers.CallAnswer.TheVariants as answer
 use Rattle.chart_c.specs.Lent.{answered_number, lent_after, flag}
 
 -- ---- the parts of an answer. A part that the call does not answer is 0
@@ -29,11 +27,6 @@ answer_outcome (refused n) = outcome.refused n
 -- "Building answers the chart, the rounds and the number removed."
 unfoldable pub building_outcome : Outcome BuiltState → Outcome Parts
 building_outcome a = and_then a (λ (b : BuiltState). given (count_parts b.rounds b.removed))
-
--- what the answer of a private function says
-unfoldable pub answer_says : CallAnswer → Outcome Parts
-answer_says (answer.Done parts) = given parts
-answer_says (answer.Refused n) = outcome.refused n
 
 -- ---- two parts in two lent places, and the number that is answered
 

@@ -1,22 +1,22 @@
 -- A word alone, building, and the four calls on a chart.
-use Rattle.std.specs.Prelude.{◌≡◌, true, List, ℕ, leb, ℤ}
+use Rattle.std.specs.Prelude.{◌≡◌, true, List, ℕ, leb, ℤ, Ok}
 use Rattle.rules.specs.Outcome.{Outcome, and_then}
 use Rattle.rules.specs.Choice.{choose}
 use Rattle.rules.specs.State.{State}
 use Rattle.rules.specs.Building.{BuiltState}
 use Rattle.rules.specs.Machine as machine
 use Rattle.rules.specs.Machine.{step}
+use Rattle.refusals.specs.Refusal.{result_says}
 use Rattle.chart.specs.declared.Chart.{Chart}
+use Rattle.chart.specs.declared.Called.{Called}
 use Rattle.chart.specs.Chart.{chart_after}
 use Rattle.chart.specs.Soundness.{sound_chart}
 use Rattle.chart.specs.Calls.{next_chart, answer_to}
 use Rattle.chart_c.specs.declared.answers.Parts.{Parts}
-use Rattle.chart_c.specs.declared.answers.CallAnswer.TheVariants as answer
 use Rattle.chart_c.specs.declared.calls.Call.{Call}
 use Rattle.chart_c.specs.declared.calls.Call.TheVariants as call
-use Rattle.chart_c.specs.declared.calls.Called.{Called}
 use Rattle.chart_c.specs.Lent.{answered_number, lent_after}
-use Rattle.chart_c.specs.Answers.{count_parts, answer_outcome, building_outcome, answer_says}
+use Rattle.chart_c.specs.Answers.{count_parts, answer_outcome, building_outcome}
 use Rattle.chart_c.specs.Forms.{Answered, front_start, if_room, kept_in, LeavesChart, parts_in}
 
 -- ---- "a word formed alone": 1, 5, 6, 7
@@ -57,15 +57,15 @@ call_says call.Correction = machine.correction
 call_says call.Renewal = machine.renewal
 
 -- one call on a chart
-pub record IsCalled (c : Chart) (made : machine.Call) (r : Called) : Type 0 where
+pub record IsCalled (c : Chart) (made : machine.Call) (r : Called Parts) : Type 0 where
   pub chart : r.chart ≡ next_chart c made
-  pub says : answer_says r.answer ≡ answer_outcome (answer_to c made)
+  pub says : result_says r.answer ≡ answer_outcome (answer_to c made)
 
 -- a chart that was built
-pub record IsBuilt (a : Outcome BuiltState) (r : Called) : Type 0 where
+pub record IsBuilt (a : Outcome BuiltState) (r : Called Parts) : Type 0 where
   pub chart : r.chart ≡ chart_after a
-  pub says : answer_says r.answer ≡ building_outcome a
+  pub says : result_says r.answer ≡ building_outcome a
 
 -- the chart of a call that was not refused is sound
-abbrev pub SoundIfDone : Called → Type 0
-SoundIfDone r = (parts : Parts) → r.answer ≡ answer.Done parts → sound_chart r.chart ≡ true
+abbrev pub SoundIfDone : Called Parts → Type 0
+SoundIfDone r = (parts : Parts) → r.answer ≡ Ok parts → sound_chart r.chart ≡ true

@@ -1,5 +1,5 @@
 -- The chart in its stored form, in a lent buffer.
-use Rattle.std.specs.Prelude.{◌≡◌, List, ℕ, length, take, leb}
+use Rattle.std.specs.Prelude.{◌≡◌, List, ℕ, length, take, leb, Result}
 use Rattle.rules.specs.Outcome.{Outcome, given, refused, and_then}
 use Rattle.rules.specs.Choice.{require}
 use Rattle.rules.specs.Buffer.{at_front}
@@ -7,9 +7,9 @@ use Rattle.rules.specs.State.{State}
 use Rattle.rules.specs.StoredForm.{stored_form, form_fits}
 use Rattle.rules.specs.Lists.{bytes_start}
 use Rattle.chart_c.specs.declared.answers.Parts.{Parts}
-use Rattle.chart_c.specs.declared.answers.CallAnswer.{CallAnswer}
+use Rattle.refusals.specs.Refusal.{result_says}
+use Rattle.refusals.specs.declared.Refusal.{Refusal}
 use Rattle.chart_c.specs.Lent.{lent_after}
-use Rattle.chart_c.specs.Answers.{answer_says}
 
 -- ---- the chart in a buffer
 
@@ -44,6 +44,6 @@ unfoldable pub parts_in : Outcome Answered → Outcome Parts
 parts_in o = and_then o (λ (x : Answered). given x.parts)
 
 -- ---- what the private functions give: the chart that is left, and the answer
-pub record KeepsChart (o : Outcome Answered) (before after : List ℕ) (size size' : ℕ) (r : CallAnswer) : Type 0 where
+pub record KeepsChart (o : Outcome Answered) (before after : List ℕ) (size size' : ℕ) (r : Result Parts Refusal) : Type 0 where
   pub chart : LeavesChart o before after size size'
-  pub says : answer_says r ≡ parts_in o
+  pub says : result_says r ≡ parts_in o

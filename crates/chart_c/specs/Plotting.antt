@@ -43,6 +43,10 @@ is_word z = le_z (neg_ℤ (pos 32768)) z && le_z z (pos 32767)
 unfoldable pub flags_of : BeyondEach → List ℕ
 flags_of b = flag b.lower_warning ∷ flag b.upper_warning ∷ flag b.lower_control ∷ flag b.upper_control ∷ []
 
+-- a buffer of fewer than four bytes is refused with 15
+unfoldable pub beyond_into : List ℕ → BeyondEach → Outcome BeyondEach
+beyond_into buffer b = require (leb 4 (length buffer)) (refused 15) (given b)
+
 -- a number that is no word is refused with 7, a buffer of fewer than four bytes with 15
 unfoldable pub compared_into : List ℕ → ℤ → State → Outcome BeyondEach
 compared_into buffer w s =

@@ -4,18 +4,16 @@ ghost use Rattle.store.specs.HeldChart.{IsHeld};
 ghost use Rattle.chart_c.specs.Calls.{kind_passed};
 ghost use Rattle.chart_c.specs.Forms.{front_start};
 
-use chart::zero_chart;
-use store::held::{Held, held_in};
+use chart::Chart;
+use refusals::Refusal;
+use store::held::held_in;
 
 // The chart whose stored form is the first `size` bytes of a buffer.
-pub fn held_at_front(buffer: &[u8], size: usize) -> Held
+pub fn held_at_front(buffer: &[u8], size: usize) -> Result<Chart, Refusal>
     ensures { IsHeld (front_start buffer.now size) result }
 {
     if buffer.len() < size {
-        return Held {
-            chart: zero_chart(),
-            number: 13,
-        };
+        return Err(Refusal::NoStoredForm);
     }
     held_in(&buffer[..size])
 }
@@ -24,8 +22,5 @@ pub fn held_at_front(buffer: &[u8], size: usize) -> Held
 pub fn kind_passed(kind: u32) -> u16
     ensures { result ≡ kind_passed kind }
 {
-    if 65535 < kind {
-        return 0;
-    }
-    kind as u16
+    u16::try_from(kind).unwrap_or(0)
 }

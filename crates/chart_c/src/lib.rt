@@ -25,28 +25,18 @@ ghost use Rattle.chart_c.specs.Plotting.{drawn, Draws, compared, Compares, Check
 ghost use Rattle.chart_c.specs.Texts.{PutsText};
 
 use answers::{number_in, put_counts, put_judged, put_reanalysed};
-use calls::{Call, built, call_on, keep};
-use forms::kind_passed;
-use lines::{against_lines_sound, lines_of_sound};
-use plotting::{BEYOND_SIZE, is_word, put_beyond, put_line_doubles};
+use calls::{Call, built, call_on, form_word, keep};
+use plotting::{compare, draw};
 use store::held::held_in;
 use strings::{TEXT_MOST, put_string};
 use texts::{put_refusal_meaning, put_verdict_meaning, put_version};
-use words::Formed;
 
 // A kind is passed as a number of 32 bits. So a number that does not fit in sixteen bits is not cut to a valid kind on its way here.
 #[unsafe(no_mangle)]
 pub extern "C" fn control_chart_word(kind: u32, a: i64, b: i64, c: i64, word: &mut i16) -> u16
     ensures { FormsWord (word_alone kind a b c) word.old word.new result }
 {
-    let formed = words::word(kind_passed(kind), a, b, c);
-    match formed {
-        Formed::Word(w) => {
-            *word = w;
-            0
-        }
-        Formed::Refused(n) => n,
-    }
+    number_in(form_word(kind, a, b, c, word))
 }
 
 #[unsafe(no_mangle)]
@@ -62,7 +52,7 @@ pub extern "C" fn control_chart_build(
         chart.old chart.new size.old size.new
         (λ p. Counts p rounds.old rounds.new removed.old removed.new result) }
 {
-    put_counts(keep(built(kind, words), chart, size), rounds, removed)
+    number_in(put_counts(keep(built(kind, words), chart, size), rounds, removed))
 }
 
 #[unsafe(no_mangle)]
@@ -81,7 +71,7 @@ pub extern "C" fn control_chart_post(
         (λ p. Judges p word.old word.new verdict.old verdict.new result) }
 {
     let call = Call::Post { kind, a, b, c };
-    put_judged(call_on(chart, size, call), word, verdict)
+    number_in(put_judged(call_on(chart, size, call), word, verdict))
 }
 
 #[unsafe(no_mangle)]
@@ -100,7 +90,7 @@ pub extern "C" fn control_chart_reanalyse(
         (λ p. Reanalyses p word.old word.new passed.old passed.new result) }
 {
     let call = Call::Reanalysis { kind, a, b, c };
-    put_reanalysed(call_on(chart, size, call), word, passed)
+    number_in(put_reanalysed(call_on(chart, size, call), word, passed))
 }
 
 #[unsafe(no_mangle)]
@@ -123,7 +113,7 @@ pub extern "C" fn control_chart_renew(
         chart.old chart.new size.old size.new
         (λ p. Counts p rounds.old rounds.new removed.old removed.new result) }
 {
-    put_counts(call_on(chart, size, Call::Renewal), rounds, removed)
+    number_in(put_counts(call_on(chart, size, Call::Renewal), rounds, removed))
 }
 
 #[unsafe(no_mangle)]
@@ -131,13 +121,7 @@ pub extern "C" fn control_chart_lines(chart: &[u8], lines: &mut [f64], count: &m
     ensures { Draws (drawn chart.now lines.old)
         lines.old lines.new count.old count.new result }
 {
-    let held = held_in(chart);
-    let before = held.chart;
-    let refusal = held.number;
-    if refusal != 0 {
-        return refusal;
-    }
-    put_line_doubles(lines_of_sound(before), lines, count)
+    number_in(draw(chart, lines, count))
 }
 
 // A word is passed as a number of 32 bits too. A number that does not fit in sixteen bits is refused with 7.
@@ -145,20 +129,7 @@ pub extern "C" fn control_chart_lines(chart: &[u8], lines: &mut [f64], count: &m
 pub extern "C" fn control_chart_against_lines(chart: &[u8], word: i32, beyond: &mut [u8]) -> u16
     ensures { Compares (compared chart.now word beyond.old) beyond.old beyond.new result }
 {
-    let held = held_in(chart);
-    let before = held.chart;
-    let refusal = held.number;
-    if refusal != 0 {
-        return refusal;
-    }
-    if !is_word(word) {
-        return 7;
-    }
-    if beyond.len() < BEYOND_SIZE {
-        return 15;
-    }
-    put_beyond(against_lines_sound(before, word as i16), beyond);
-    0
+    number_in(compare(chart, word, beyond))
 }
 
 #[unsafe(no_mangle)]
@@ -166,7 +137,7 @@ pub extern "C" fn control_chart_check(chart: &[u8]) -> u16
     ensures { Checks chart.now result }
 {
     let held = held_in(chart);
-    held.number
+    number_in(held)
 }
 
 // What a number means, as text. The number has 32 bits, as a kind has, so that a larger number is not cut to that of a refusal.
@@ -176,7 +147,7 @@ pub extern "C" fn control_chart_refusal_text(number: u32, text: &mut [u8]) -> u1
 {
     let mut meaning = [0u8; TEXT_MOST];
     let length = put_refusal_meaning(&mut meaning, number);
-    put_string(&meaning[..length], text)
+    number_in(put_string(&meaning[..length], text))
 }
 
 #[unsafe(no_mangle)]
@@ -185,7 +156,7 @@ pub extern "C" fn control_chart_verdict_text(verdict: u32, text: &mut [u8]) -> u
 {
     let mut meaning = [0u8; TEXT_MOST];
     let length = put_verdict_meaning(&mut meaning, verdict);
-    put_string(&meaning[..length], text)
+    number_in(put_string(&meaning[..length], text))
 }
 
 #[unsafe(no_mangle)]
@@ -194,5 +165,5 @@ pub extern "C" fn control_chart_version(text: &mut [u8]) -> u16
 {
     let mut number = [0u8; TEXT_MOST];
     let length = put_version(&mut number);
-    put_string(&number[..length], text)
+    number_in(put_string(&number[..length], text))
 }

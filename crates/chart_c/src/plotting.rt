@@ -1,21 +1,28 @@
-// Doubles and flags into lent buffers.
-ghost use Rattle.std.specs.Prelude.{◌≡◌, ◌≤◌, length};
+// Lines, and a word against them, into lent buffers.
+ghost use Rattle.std.specs.Prelude.{◌≡◌};
+ghost use Rattle.refusals.specs.Refusal.{answered_number};
 ghost use Rattle.lines.specs.Lines.{lines_say, beyond_says};
-ghost use Rattle.rules.specs.Buffer.{at_front};
-ghost use Rattle.chart_c.specs.Lent.{flag};
-ghost use Rattle.chart_c.specs.Plotting.{doubles_of, doubles_into, Draws, is_word, flags_of};
+ghost use Rattle.chart_c.specs.Plotting.{doubles_of, doubles_into, drawn, Draws, beyond_into, compared, Compares};
 
-use lines::{BeyondEach, Lines};
-use printing::put_text;
+use lines::{BeyondEach, Lines, against_lines_sound, lines_of_sound};
+use refusals::Refusal;
+use store::held::held_in;
 
 // One byte for each limit: whether a word is beyond it.
-pub const BEYOND_SIZE: usize = 4;
+const BEYOND_SIZE: usize = 4;
 
-// Puts the lines' doubles at the front of the buffer, and their number into `count`. If there is no room, it answers 15 and leaves both as
-// they were.
-pub fn put_line_doubles(lines: Lines, buffer: &mut [f64], count: &mut usize) -> u16
+// Puts the doubles of a chart's lines at the front of the buffer, and their number into `count`. A refusal leaves both as they were.
+pub fn draw(chart: &[u8], buffer: &mut [f64], count: &mut usize) -> Result<(), Refusal>
+    ensures { Draws (drawn chart.now buffer.old)
+        buffer.old buffer.new count.old count.new (answered_number result) }
+{
+    let held = held_in(chart)?;
+    put_line_doubles(lines_of_sound(held), buffer, count)
+}
+
+fn put_line_doubles(lines: Lines, buffer: &mut [f64], count: &mut usize) -> Result<(), Refusal>
     ensures { Draws (doubles_into buffer.old (doubles_of (lines_say lines)))
-        buffer.old buffer.new count.old count.new result }
+        buffer.old buffer.new count.old count.new (answered_number result) }
 {
     match lines {
         Lines::Duplicate {
@@ -39,53 +46,43 @@ pub fn put_line_doubles(lines: Lines, buffer: &mut [f64], count: &mut usize) -> 
     }
 }
 
-fn put_doubles(doubles: &[f64], buffer: &mut [f64], count: &mut usize) -> u16
+fn put_doubles(doubles: &[f64], buffer: &mut [f64], count: &mut usize) -> Result<(), Refusal>
     ensures { Draws (doubles_into buffer.old doubles.now)
-        buffer.old buffer.new count.old count.new result }
+        buffer.old buffer.new count.old count.new (answered_number result) }
 {
-    if buffer.len() < doubles.len() {
-        return 15;
+    let n = doubles.len();
+    if buffer.len() < n {
+        return Err(Refusal::NoRoom);
     }
-    copy_doubles(doubles, buffer);
-    *count = doubles.len();
-    0
+    buffer[..n].copy_from_slice(doubles);
+    *count = n;
+    Ok(())
 }
 
-fn copy_doubles(doubles: &[f64], buffer: &mut [f64])
-    requires { length doubles.now ≤ length buffer.old }
-    ensures { buffer.new ≡ at_front doubles.now buffer.old }
+// Puts four bytes at the front of the buffer: 1 for each limit of a chart that the word is beyond, 0 for each other one. A refusal leaves
+// the buffer as it was. A number that does not fit in sixteen bits is no word.
+pub fn compare(chart: &[u8], number: i32, buffer: &mut [u8]) -> Result<(), Refusal>
+    ensures { Compares (compared chart.now number buffer.old) buffer.old buffer.new (answered_number result) }
 {
-    let mut i: usize = 0;
-    while i < doubles.len() {
-        buffer[i] = doubles[i];
-        i += 1;
+    let held = held_in(chart)?;
+    let Ok(word) = i16::try_from(number) else {
+        return Err(Refusal::NoWord);
+    };
+    put_beyond(against_lines_sound(held, word), buffer)
+}
+
+fn put_beyond(b: BeyondEach, buffer: &mut [u8]) -> Result<(), Refusal>
+    ensures { Compares (beyond_into buffer.old (beyond_says b)) buffer.old buffer.new (answered_number result) }
+{
+    if buffer.len() < BEYOND_SIZE {
+        return Err(Refusal::NoRoom);
     }
-}
-
-// A word has sixteen bits.
-pub fn is_word(number: i32) -> bool
-    ensures { result ≡ is_word number }
-{
-    (-32768 <= number) & (number <= 32767)
-}
-
-// Puts four bytes at the front of the buffer: 1 for each limit that the word is beyond, 0 for each other one.
-pub fn put_beyond(b: BeyondEach, buffer: &mut [u8])
-    requires { 4 ≤ length buffer.old }
-    ensures { buffer.new ≡ at_front (flags_of (beyond_says b)) buffer.old }
-{
     let flags = [
-        flag_of(b.lower_warning),
-        flag_of(b.upper_warning),
-        flag_of(b.lower_control),
-        flag_of(b.upper_control),
+        u8::from(b.lower_warning),
+        u8::from(b.upper_warning),
+        u8::from(b.lower_control),
+        u8::from(b.upper_control),
     ];
-    put_text(buffer, 0, &flags);
-}
-
-// 1 for yes, 0 for no.
-pub fn flag_of(holds: bool) -> u8
-    ensures { result ≡ flag holds }
-{
-    if holds { 1 } else { 0 }
+    buffer[..BEYOND_SIZE].copy_from_slice(&flags);
+    Ok(())
 }

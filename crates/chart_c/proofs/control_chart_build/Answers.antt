@@ -8,4 +8,4 @@ keep-requires c = sound_if_built _ _ c.built.result c.built.ensures
 
 pub returns : goal.returns
 returns c =
-    leaves _ (rw (built_is _ _ c.built.ensures _) at c.keep.ensures) c.put_counts.ensures
+    leaves _ (rw (built_is _ _ c.built.ensures _) at c.keep.ensures) (rw c.number_in.ensures c.put_counts.ensures)

@@ -8,4 +8,4 @@ pub returns : goal.returns
 unfolding call_says
 returns c =
     let fits = c.ranges in
-    leaves _ (rw (to_z-of_z fits.a, to_z-of_z fits.b, to_z-of_z fits.c) at c.call_on.ensures) c.put_judged.ensures
+    leaves _ (rw (to_z-of_z fits.a, to_z-of_z fits.b, to_z-of_z fits.c) at c.call_on.ensures) (rw c.number_in.ensures c.put_judged.ensures)

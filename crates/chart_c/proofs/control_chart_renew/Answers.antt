@@ -5,4 +5,4 @@ use Rattle.chart_c.proofs.control_chart_renew.Goals as goal
 
 pub returns : goal.returns
 unfolding call_says
-returns c = leaves _ c.call_on.ensures c.put_counts.ensures
+returns c = leaves _ c.call_on.ensures (rw c.number_in.ensures c.put_counts.ensures)

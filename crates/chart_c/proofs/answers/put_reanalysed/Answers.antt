@@ -1,11 +1,17 @@
 -- `chart_c::answers::put_reanalysed` meets its contract.
-use mathlib.Core.Path.{refl}
+use mathlib.Core.Path.{◌≡◌, refl}
 use borrow.Author.Rules.{rules}
+use Rattle.std.specs.Prelude.{Err}
+use Rattle.refusals.specs.Refusal.{answered_number}
 use Rattle.chart_c.proofs.Places.{filled, not_filled}
 use Rattle.chart_c.proofs.answers.put_reanalysed.Goals as goal
 
-pub returns-in-Done : goal.returns-in-Done
-returns-in-Done c = filled _ _ _ _ _ _ c.in-Done.is (search rules) refl
+pub returns-in_err-parts : goal.returns-in_err-parts
+unfolding answered_number
+returns-in_err-parts c =
+    let same : c.from_residual.result ≡ Err c.in_err-parts.field-0.0 = search rules in
+    rw same (not_filled _ _ _ _ _ c.in_err-parts.was)
 
-pub returns-in-Refused : goal.returns-in-Refused
-returns-in-Refused c = not_filled _ _ _ _ _ c.in-Refused.is
+pub returns : goal.returns
+unfolding answered_number
+returns c = filled _ _ _ _ _ _ c.in_ok-parts.was (search rules) refl

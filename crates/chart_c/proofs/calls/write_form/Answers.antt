@@ -1,11 +1,14 @@
 -- `chart_c::calls::write_form` meets its contract.
+use mathlib.Core.Path.{◌≡◌}
+use borrow.Author.Rules.{rules}
+use Rattle.std.specs.Prelude.{Err}
 use Rattle.chart_c.proofs.Kept.{written, not_written_lem}
 use Rattle.chart_c.proofs.calls.write_form.Goals as goal
 
-pub returns-in-Done : goal.returns-in-Done
-returns-in-Done c =
-    written _ c.requires _ _ _ _ _ (rw c.in-Done.is at c.write_sound-written.ensures)
+pub returns-in_err-n : goal.returns-in_err-n
+returns-in_err-n c =
+    let same : c.from_residual.result ≡ Err c.in_err-n.field-0.0 = search rules in
+    rw same (not_written_lem _ c.requires _ _ _ _ _ c.in_err-n.ensures)
 
-pub returns-in-Refused : goal.returns-in-Refused
-returns-in-Refused c =
-    not_written_lem _ c.requires _ _ _ _ _ (rw c.in-Refused.is at c.write_sound-written.ensures)
+pub returns : goal.returns
+returns c = written _ c.requires _ _ _ _ _ c.in_ok-n.ensures

@@ -4,16 +4,14 @@ use Prim.Native.Nat.{◌≤◌}
 use borrow.Author.Tests.{le-leb, lt-leb}
 use lib.ListN.{length}
 use lib.Seq.{length-take-le}
-use Rattle.store.specs.HeldChart.{chart_of_start, number_of_start}
+use Rattle.refusals.specs.Refusal.{refusal_number, result_says}
+use Rattle.store.specs.HeldChart.{chart_of_start}
 use Rattle.chart_c.specs.Forms.{front_start}
 use Rattle.chart_c.proofs.forms.held_at_front.Goals as goal
 
 pub returns-then-buffer-size : goal.returns-then-buffer-size
-unfolding front_start number_of_start chart_of_start
-returns-then-buffer-size c =
-    let a = c.args in
-    let short = lt-leb a.size (length a.buffer.now) c.if-buffer-size.true in
-    record { chart = rw short c.zero_chart.ensures; number = rw short }
+unfolding front_start chart_of_start refusal_number result_says
+returns-then-buffer-size c = record { says = rw (lt-leb c.args.size (length c.args.buffer.now) c.if-buffer-size.true) }
 
 pub slice_bounds-held_in-end : goal.slice_bounds-held_in-end
 slice_bounds-held_in-end c =

@@ -1,9 +1,12 @@
 -- `chart_c::plotting::put_doubles` meets its contract.
-use Rattle.chart_c.proofs.Drawn.{doubles_short, doubles_put}
+use Rattle.refusals.specs.Refusal.{answered_number, refusal_number}
+use Rattle.chart_c.proofs.Drawn.{copied_front, doubles_short, doubles_put}
 use Rattle.chart_c.proofs.plotting.put_doubles.Goals as goal
 
-pub returns-then-buffer-doubles : goal.returns-then-buffer-doubles
-returns-then-buffer-doubles c = doubles_short _ _ _ c.if-buffer-doubles.true
+pub returns-then-buffer-n : goal.returns-then-buffer-n
+unfolding answered_number refusal_number
+returns-then-buffer-n c = doubles_short _ _ _ c.if-buffer-n.true
 
 pub returns : goal.returns
-returns c = doubles_put _ _ _ c.if-buffer-doubles.false _ c.copy_doubles.ensures
+unfolding answered_number
+returns c = doubles_put _ _ _ c.if-buffer-n.false _ (copied_front _ _ c.copy_from_slice.ensures.after)
