@@ -80,12 +80,6 @@ number_held (given s) (Err r) is = given_not_refused (sym is.says)
 number_held (refused n) (Ok c) is = given_not_refused is.says
 number_held (refused n) (Err r) is = same_refused is.says
 
--- the number of a result is the one that its outcome answers
-pub number_says : {A : Type 0} (r : Result A Refusal) → refusal.answered_number r ≡ answered_number (result_says r)
-unfolding result_says answered_number refusal.answered_number
-number_says (Ok x) = refl
-number_says (Err r) = refl
-
 -- what follows a start
 pub then_taken : {B : Type 0} (a : Outcome State) (c : Chart) (t : Taken a c) (next : State → Outcome B)
     → and_then a next ≡ next t.state

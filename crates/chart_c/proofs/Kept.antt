@@ -1,52 +1,59 @@
 -- Laws of the chart that a call leaves in a lent buffer, and of the call itself: what is written (`written`, `not_written_lem`), what a refused
--- call leaves (`keeps_declined`), one call on a sound chart (`called_by`), and a call on the chart in a buffer (`not_called`, `called_is`).
+-- call leaves (`keeps_declined`, `call_refused`), and what is left by a call on the chart in a buffer (`call_leaves`).
 use mathlib.Core.Path.{◌≡◌, refl, sym, ap, ◌∙◌}
 use mathlib.Core.Bool.{Bool, true, false}
 use mathlib.Core.List.{List}
 use Prim.Native.Nat.{ℕ}
 use lib.ListN.{length}
+use lib.IntN.{ℤ}
 use Rattle.std.specs.Prelude.{Result, Ok, Err}
-use Rattle.rules.specs.Outcome.{Outcome, given}
-use Rattle.rules.specs.Outcome as outcome
+use Rattle.rules.specs.Outcome.{Outcome, given, refused}
 use Rattle.rules.specs.Choice.{require, choose}
 use Rattle.rules.specs.Buffer.{at_front}
 use Rattle.rules.specs.State.{State}
 use Rattle.rules.specs.StoredForm.{stored_form, form_fits, writing, buffer_after}
-use Rattle.rules.specs.Machine.{Call, Answer, refused, Next, step}
+use Rattle.rules.specs.Machine.{Call, Answer, Next, step, post, reanalysis}
+use Rattle.rules.specs.Machine as machine
 use Rattle.rules.proofs.Machine.{step-sound}
 use Rattle.rules.proofs.Outcome.{given_not_refused}
 use Rattle.refusals.specs.Refusal.{refusal_number, result_says}
 use Rattle.refusals.specs.declared.Refusal.{Refusal}
 use Rattle.chart.specs.declared.Chart.{Chart}
-use Rattle.chart.specs.declared.Called.{Called}
 use Rattle.chart.specs.Chart.{state_of, chart_of}
 use Rattle.chart.specs.Soundness.{sound_chart}
 use Rattle.chart.specs.Calls.{next_chart, answer_to, Gives}
 use Rattle.chart.proofs.State.{state_of_chart}
+use Rattle.chart.proofs.SoundCharts.{sound_chart_facts}
 use Rattle.chart.proofs.Runs.{next_is, answer_is, sound_chart_of}
 use Rattle.store.specs.HeldChart.{IsHeld}
 use Rattle.store.specs.Store.{answer_to_write, buffer_after_write, Writes}
-use Rattle.chart_c.specs.declared.answers.Parts.{Parts}
 use Rattle.chart_c.specs.Lent.{lent_after}
-use Rattle.chart_c.specs.Answers.{answer_outcome}
-use Rattle.chart_c.specs.Forms.{Answered, front_start, if_room, kept_in, parts_in, KeepsChart}
-use Rattle.chart_c.specs.Calls.{called, IsCalled}
+use Rattle.chart_c.specs.Answers.{Parts, answer_outcome}
+use Rattle.chart_c.specs.Forms.{Answered, front_start, if_room, kept_in, LeavesChart, parts_in, KeepsChart}
+use Rattle.chart_c.specs.Calls.{called, kind_passed, Leaves}
+use Rattle.chart_c.proofs.SameKind.{same_post, same_reanalysis}
+use Rattle.chart_c.proofs.Places.{parts_of}
 use Rattle.chart_c.proofs.Held.{Taken, from_front, held_taken, not_held, then_taken}
 
 -- ---- a refused call leaves everything as it was
 
-pub keeps_declined : (o : Outcome Answered) (before : List ℕ) (size : ℕ) (r : Refusal)
-    → o ≡ outcome.refused (refusal_number r) → KeepsChart o before before size size (Err r)
+pub keeps_declined : {A : Type 0} (o : Outcome (Answered A)) (before : List ℕ) (size : ℕ) (r : Refusal)
+    → o ≡ refused (refusal_number r) → KeepsChart o before before size size (Err r)
 unfolding result_says parts_in lent_after
 keeps_declined o before size r e = rw e (record { chart = record { buffer = refl; count = refl }; says = refl })
 
--- ---- what `write_form` gives for the two answers of writing, with room and without
+leaves_declined : (o : Outcome (Answered Parts)) (before : List ℕ) (size n : ℕ) → o ≡ refused n
+    → (Places : Outcome Parts → Type 0) → Places (refused n) → Leaves o before before size size Places
+unfolding parts_in lent_after
+leaves_declined o before size n e Places p = rw e (record { chart = record { buffer = refl; count = refl }; places = p })
 
-module _ (s : State) (before after : List ℕ) (parts : Parts) (size : ℕ) where
-  abbrev put_if : Bool → Outcome Answered
-  put_if room = require room (outcome.refused 15) (given (record { state = s; parts = parts }))
+-- ---- what `keep` gives for the two answers of writing, with room and without
 
-  done_by : (n : ℕ) (room : Bool) → given n ≡ require room (outcome.refused 15) (given (length (stored_form s)))
+module _ {A : Type 0} (s : State) (before after : List ℕ) (parts : A) (size : ℕ) where
+  abbrev put_if : Bool → Outcome (Answered A)
+  put_if room = require room (refused 15) (given (record { state = s; parts = parts }))
+
+  done_by : (n : ℕ) (room : Bool) → given n ≡ require room (refused 15) (given (length (stored_form s)))
       → after ≡ require room before (at_front (stored_form s) before)
       → KeepsChart (put_if room) before after size n (Ok parts)
   unfolding result_says parts_in lent_after
@@ -54,16 +61,16 @@ module _ (s : State) (before after : List ℕ) (parts : Parts) (size : ℕ) wher
       record { chart = record { buffer = put; count = cc }; says = refl }
   done_by n false e put = given_not_refused e
 
-  declined_by : (r : Refusal) (room : Bool) → outcome.refused (refusal_number r) ≡ require room (outcome.refused 15) (given (length (stored_form s)))
+  declined_by : (r : Refusal) (room : Bool) → refused (refusal_number r) ≡ require room (refused 15) (given (length (stored_form s)))
       → after ≡ require room before (at_front (stored_form s) before)
       → KeepsChart (put_if room) before after size size (Err r)
   unfolding result_says parts_in lent_after
   declined_by r true e put = given_not_refused (sym e)
   declined_by r false e put =
       let same : refusal_number r ≡ 15 = cc in
-      record { chart = record { buffer = put; count = refl }; says = ap outcome.refused same }
+      record { chart = record { buffer = put; count = refl }; says = ap refused same }
 
-module _ (c : Chart) (t : sound_chart c ≡ true) (before after : List ℕ) (parts : Parts) (size : ℕ) where
+module _ {A : Type 0} (c : Chart) (t : sound_chart c ≡ true) (before after : List ℕ) (parts : A) (size : ℕ) where
   pub written : (n : ℕ) → Writes c before after (Ok n) → KeepsChart (if_room before (state_of c) parts) before after size n (Ok parts)
   unfolding result_says answer_to_write buffer_after_write writing buffer_after if_room
   written n w = done_by (state_of c) before after parts size n (form_fits (state_of c) before) (rw t at w.says) (rw t at w.buffer)
@@ -73,18 +80,64 @@ module _ (c : Chart) (t : sound_chart c ≡ true) (before after : List ℕ) (par
   unfolding result_says answer_to_write buffer_after_write writing buffer_after if_room
   not_written_lem r w = declined_by (state_of c) before after parts size r (form_fits (state_of c) before) (rw t at w.says) (rw t at w.buffer)
 
--- ---- one call on a chart
+-- ---- a chart that was kept, with the parts that its answer stands for
 
--- `call` is the call that was asked for, and `made` the one that the library makes. They may differ in the number of the kind, but they
--- give the same
-pub called_by : {c next : Chart} {made call : Call} {said : Answer} {r : Result Parts Refusal} → step (state_of c) made ≡ step (state_of c) call
-    → Gives c made next said → result_says r ≡ answer_outcome said → IsCalled c call (record { chart = next; answer = r })
-unfolding next_chart answer_to
-called_by {c} same gives says =
-    record {
-      chart = gives.chart ∙ ap (λ (n : Next). choose (sound_chart c) (chart_of n.state) c) same;
-      says = says ∙ ap answer_outcome (gives.says ∙ ap (λ (n : Next). choose (sound_chart c) n.answer (refused 14)) same);
-    }
+module _ {A : Type 0} (parts : A → Parts) (buffer : List ℕ) (s : State) where
+  abbrev with_parts : {B : Type 0} → Bool → B → Outcome (Answered B)
+  with_parts room x = require room (refused 15) (given (record { state = s; parts = x }))
+
+  room_parts : (room : Bool) (x : A) → parts_of parts (parts_in (with_parts room x)) ≡ parts_in (with_parts room (parts x))
+  unfolding parts_in
+  room_parts true x = refl
+  room_parts false x = refl
+
+  kept_parts : (o : Outcome A) → parts_of parts (parts_in (kept_in buffer s o)) ≡ parts_in (kept_in buffer s (parts_of parts o))
+  unfolding if_room parts_in
+  kept_parts (given x) = room_parts (form_fits s buffer) x
+  kept_parts (refused n) = refl
+
+  module _ {before after : List ℕ} {size size' : ℕ} where
+    room_leaves : (room : Bool) (x : A) → LeavesChart (with_parts room x) before after size size'
+        → LeavesChart (with_parts room (parts x)) before after size size'
+    unfolding lent_after
+    room_leaves true x l = record { buffer = l.buffer; count = l.count }
+    room_leaves false x l = record { buffer = l.buffer; count = l.count }
+
+    kept_leaves : (o : Outcome A) → LeavesChart (kept_in buffer s o) before after size size'
+        → LeavesChart (kept_in buffer s (parts_of parts o)) before after size size'
+    unfolding if_room lent_after
+    kept_leaves (given x) l = room_leaves (form_fits s buffer) x l
+    kept_leaves (refused n) l = record { buffer = l.buffer; count = l.count }
+
+    pub kept_as : (o : Outcome A) {r : Result A Refusal} → KeepsChart (kept_in buffer s o) before after size size' r
+        → (Places : Outcome Parts → Type 0) → Places (parts_of parts (result_says r))
+        → Leaves (kept_in buffer s (parts_of parts o)) before after size size' Places
+    kept_as o k Places p =
+        record { chart = kept_leaves o k.chart; places = rw (ap (λ (x : Outcome A). parts_of parts x) k.says ∙ kept_parts o) at p }
+
+-- ---- the library makes a call with the kind of sixteen bits. It gives what the call with the kind that was passed gives
+
+module _ {c next : Chart} {said : Answer} where
+  same_gives : {made call : Call} → step (state_of c) made ≡ step (state_of c) call → Gives c made next said → Gives c call next said
+  unfolding next_chart answer_to
+  same_gives same gives =
+      record {
+        chart = gives.chart ∙ ap (λ (n : Next). choose (sound_chart c) (chart_of n.state) c) same;
+        says = gives.says ∙ ap (λ (n : Next). choose (sound_chart c) n.answer (machine.refused 14)) same;
+      }
+
+  module _ (t : sound_chart c ≡ true) (kind : ℕ) (x y z : ℤ) {k : ℕ} (passed : k ≡ kind_passed kind) where
+    pub post_gives : Gives c (post k x y z) next said → Gives c (post kind x y z) next said
+    post_gives gives =
+        let s = state_of c in
+        let kinds = ap (λ (n : ℕ). step s (post n x y z)) passed in
+        same_gives (kinds ∙ same_post s (sound_chart_facts c t).state kind x y z) gives
+
+    pub reanalysis_gives : Gives c (reanalysis k x y z) next said → Gives c (reanalysis kind x y z) next said
+    reanalysis_gives gives =
+        let s = state_of c in
+        let kinds = ap (λ (n : ℕ). step s (reanalysis n x y z)) passed in
+        same_gives (kinds ∙ same_reanalysis s (sound_chart_facts c t).state kind x y z) gives
 
 -- ---- a call on the chart in a buffer
 
@@ -96,31 +149,42 @@ module _ (buffer : List ℕ) (size : ℕ) {c : Chart} (held : IsHeld (front_star
   front_sound = front_taken.chart_sound
 
 module _ (buffer : List ℕ) (size : ℕ) (call : Call) where
-  abbrev stepped : State → Outcome Answered
+  abbrev stepped : State → Outcome (Answered Parts)
   stepped s = kept_in buffer (step s call).state (answer_outcome (step s call).answer)
 
   -- the bytes are refused
-  pub not_called : (r : Refusal) → IsHeld (front_start buffer size) (Err r)
-      → KeepsChart (called buffer size call) buffer buffer size size (Err r)
+  pub call_refused : (r : Refusal) → IsHeld (front_start buffer size) (Err r) → (Places : Outcome Parts → Type 0)
+      → Places (refused (refusal_number r)) → Leaves (called buffer size call) buffer buffer size size Places
   unfolding called
-  not_called r is = keeps_declined (called buffer size call) buffer size r (not_held (front_start buffer size) r is stepped)
+  call_refused r is =
+      leaves_declined (called buffer size call) buffer size (refusal_number r) (not_held (front_start buffer size) r is stepped)
 
-  module _ {c : Chart} (held : IsHeld (front_start buffer size) (Ok c)) (r : Called Parts) (is : IsCalled c call r) where
-    t : Taken (front_start buffer size) c
-    t = front_taken buffer size held
+  module _ {c : Chart} (held : IsHeld (front_start buffer size) (Ok c)) {next : Chart} {said : Answer} (gives : Gives c call next said) where
+    taken : Taken (front_start buffer size) c
+    taken = front_taken buffer size held
 
-    chart_is : r.chart ≡ chart_of (step t.state call).state
-    chart_is = is.chart ∙ (ap (λ (x : Chart). next_chart x call) t.chart ∙ next_is t.state call t.state-sound)
+    chart_is : next ≡ chart_of (step taken.state call).state
+    chart_is = gives.chart ∙ (ap (λ (x : Chart). next_chart x call) taken.chart ∙ next_is taken.state call taken.state-sound)
 
     -- the chart that comes back is sound
-    pub next_sound : sound_chart r.chart ≡ true
-    next_sound = ap sound_chart chart_is ∙ sound_chart_of (step t.state call).state (step-sound t.state call t.state-sound)
+    pub next_sound : sound_chart next ≡ true
+    next_sound = ap sound_chart chart_is ∙ sound_chart_of (step taken.state call).state (step-sound taken.state call taken.state-sound)
 
     -- its state and the answer are the machine's
-    pub called_is : kept_in buffer (state_of r.chart) (result_says r.answer) ≡ called buffer size call
+    called_is : kept_in buffer (state_of next) (answer_outcome said) ≡ called buffer size call
     unfolding called
     called_is =
-        let state = ap state_of chart_is ∙ state_of_chart (step t.state call).state in
-        let own = ap (λ (x : Chart). answer_to x call) t.chart ∙ answer_is t.state call t.state-sound in
-        let says = is.says ∙ ap answer_outcome own in
-        (λ i. kept_in buffer (state i) (says i)) ∙ sym (then_taken (front_start buffer size) c t stepped)
+        let state = ap state_of chart_is ∙ state_of_chart (step taken.state call).state in
+        let own = ap (λ (x : Chart). answer_to x call) taken.chart ∙ answer_is taken.state call taken.state-sound in
+        let says = ap answer_outcome (gives.says ∙ own) in
+        (λ i. kept_in buffer (state i) (says i)) ∙ sym (then_taken (front_start buffer size) c taken stepped)
+
+    -- the chart is kept, and the lent places hold the parts that the call answers
+    pub call_leaves : {A : Type 0} (parts : A → Parts) (answer : Result A Refusal) {back : Result A Refusal} {after : List ℕ} {size' : ℕ}
+        → answer_outcome said ≡ parts_of parts (result_says answer)
+        → KeepsChart (kept_in buffer (state_of next) (result_says answer)) buffer after size size' back
+        → (Places : Outcome Parts → Type 0) → Places (parts_of parts (result_says back))
+        → Leaves (called buffer size call) buffer after size size' Places
+    call_leaves parts answer same kept Places p =
+        let left = kept_as parts buffer (state_of next) (result_says answer) kept Places p in
+        rw (← called_is, same) left

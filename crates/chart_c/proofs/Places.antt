@@ -1,28 +1,68 @@
--- Laws of the parts of an answer in lent places (`filled`, `not_filled`), and of the chart and the places together (`leaves`).
+-- Laws of what a call answers as parts (`parts_of` and the four calls), and of two parts in lent places (`filled`, `not_filled`).
 use mathlib.Core.Path.{◌≡◌, refl}
-use mathlib.Core.List.{List}
 use Prim.Native.Nat.{ℕ}
 use Rattle.std.specs.Prelude.{Result, Ok, Err}
-use Rattle.rules.specs.Outcome.{Outcome}
-use Rattle.refusals.specs.Refusal.{refusal_number, result_says}
+use Rattle.rules.specs.Outcome.{Outcome, given, refused, and_then}
+use Rattle.refusals.specs.Refusal.{result_says}
+use Rattle.refusals.specs.Refusal as refusal
 use Rattle.refusals.specs.declared.Refusal.{Refusal}
-use Rattle.chart_c.specs.declared.answers.Parts.{Parts}
-use Rattle.chart_c.specs.Lent.{answered_number, lent_after}
-use Rattle.chart_c.specs.Answers.{Fills}
-use Rattle.chart_c.specs.Forms.{Answered, KeepsChart}
-use Rattle.chart_c.specs.Calls.{Leaves}
+use Rattle.chart.specs.declared.Counts as chart
+use Rattle.chart.specs.declared.Judged.{Judged}
+use Rattle.chart.specs.declared.Retested.{Retested}
+use Rattle.chart.specs.Calls.{post_says, reanalysis_says, correction_says, renewal_says}
+use Rattle.chart_c.specs.Lent.{answered_number, lent_after, flag}
+use Rattle.chart_c.specs.Answers.{Parts, word_parts, count_parts, answer_outcome, Fills}
 
-module _ {B C : Type 0} (first : Parts → B) (second : Parts → C) (r : Result Parts Refusal) (x : B) (y : C) where
-  pub filled : (parts : Parts) {x' : B} {y' : C} → r ≡ Ok parts → x' ≡ first parts → y' ≡ second parts
-      → Fills first second (result_says r) x x' y y' 0
-  unfolding result_says answered_number lent_after
-  filled parts e p q = rw e (record { answered = refl; of_first = p; of_second = q })
+-- ---- the parts that an answer stands for
 
-  pub not_filled : {n : Refusal} → r ≡ Err n → Fills first second (result_says r) x x y y (refusal_number n)
-  unfolding result_says answered_number lent_after
-  not_filled e = rw e (record { answered = refl; of_first = refl; of_second = refl })
+abbrev pub parts_of : {A : Type 0} → (A → Parts) → Outcome A → Outcome Parts
+parts_of {A} parts o = and_then o (λ (x : A). given (parts x))
 
--- a call answers r. What holds for the parts that r says holds for those of the outcome
-pub leaves : {o : Outcome Answered} {before after : List ℕ} {size size' : ℕ} {r : Result Parts Refusal} (Places : Outcome Parts → Type 0)
-    → KeepsChart o before after size size' r → Places (result_says r) → Leaves o before after size size' Places
-leaves Places kept filled = record { chart = kept.chart; places = rw kept.says at filled }
+abbrev pub judged_parts : Judged → Parts
+judged_parts a = word_parts a.word a.verdict 0
+
+abbrev pub retested_parts : Retested → Parts
+retested_parts a = word_parts a.word 0 (flag a.passed)
+
+abbrev pub no_parts : Unit {0} → Parts
+no_parts _ = count_parts 0 0
+
+abbrev pub counted_parts : chart.Counts → Parts
+counted_parts a = count_parts a.rounds a.removed
+
+pub post_parts : (r : Result Judged Refusal) → answer_outcome (post_says r) ≡ parts_of judged_parts (result_says r)
+unfolding answer_outcome post_says result_says
+post_parts (Ok a) = refl
+post_parts (Err e) = refl
+
+pub reanalysis_parts : (r : Result Retested Refusal) → answer_outcome (reanalysis_says r) ≡ parts_of retested_parts (result_says r)
+unfolding answer_outcome reanalysis_says result_says
+reanalysis_parts (Ok a) = refl
+reanalysis_parts (Err e) = refl
+
+pub correction_parts : (r : Result (Unit {0}) Refusal) → answer_outcome (correction_says r) ≡ parts_of no_parts (result_says r)
+unfolding answer_outcome correction_says result_says
+correction_parts (Ok a) = refl
+correction_parts (Err e) = refl
+
+pub renewal_parts : (r : Result chart.Counts Refusal) → answer_outcome (renewal_says r) ≡ parts_of counted_parts (result_says r)
+unfolding answer_outcome renewal_says result_says
+renewal_parts (Ok a) = refl
+renewal_parts (Err e) = refl
+
+-- the number alone
+pub number_kept : (r : Result (Unit {0}) Refusal) → refusal.answered_number r ≡ answered_number (parts_of no_parts (result_says r))
+unfolding answered_number refusal.answered_number result_says
+number_kept (Ok a) = refl
+number_kept (Err e) = refl
+
+-- ---- two parts in two lent places
+
+module _ {B C : Type 0} {first : Parts → B} {second : Parts → C} {x : B} {y : C} where
+  pub filled : {p : Parts} {x' : B} {y' : C} → x' ≡ first p → y' ≡ second p → Fills first second (given p) x x' y y' 0
+  unfolding answered_number lent_after
+  filled e f = record { answered = refl; of_first = e; of_second = f }
+
+  pub not_filled : {n : ℕ} → Fills first second (refused n) x x y y n
+  unfolding answered_number lent_after
+  not_filled = record { answered = refl; of_first = refl; of_second = refl }

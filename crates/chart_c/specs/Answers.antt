@@ -1,14 +1,20 @@
 -- What a call answers, as parts: a word and a verdict, a word and passed or failed, rounds and a number removed; and these parts in lent
 -- places.
 use Rattle.std.specs.Prelude.{◌≡◌, ℕ, ℤ, pos}
-use Rattle.rules.specs.Outcome.{Outcome, given, and_then}
+use Rattle.rules.specs.Outcome.{Outcome, given}
 use Rattle.rules.specs.Outcome as outcome
-use Rattle.rules.specs.Building.{BuiltState}
 use Rattle.rules.specs.Machine.{Answer, judged, reanalysed, corrected, renewed, refused}
-use Rattle.chart_c.specs.declared.answers.Parts.{Parts}
 use Rattle.chart_c.specs.Lent.{answered_number, lent_after, flag}
 
 -- ---- the parts of an answer. A part that the call does not answer is 0
+
+pub record Parts : Type 0 where
+  pub word : ℤ
+  pub verdict : ℕ
+  -- 1 for passed, 0 for failed
+  pub passed : ℕ
+  pub rounds : ℕ
+  pub removed : ℕ
 
 abbrev pub word_parts : (w : ℤ) (verdict passed : ℕ) → Parts
 word_parts w verdict passed = record { word = w; verdict = verdict; passed = passed; rounds = 0; removed = 0 }
@@ -23,10 +29,6 @@ answer_outcome (reanalysed w passed) = given (word_parts w 0 (flag passed))
 answer_outcome corrected = given (count_parts 0 0)
 answer_outcome (renewed rounds removed) = given (count_parts rounds removed)
 answer_outcome (refused n) = outcome.refused n
-
--- "Building answers the chart, the rounds and the number removed."
-unfoldable pub building_outcome : Outcome BuiltState → Outcome Parts
-building_outcome a = and_then a (λ (b : BuiltState). given (count_parts b.rounds b.removed))
 
 -- ---- two parts in two lent places, and the number that is answered
 

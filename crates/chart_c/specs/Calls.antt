@@ -6,17 +6,10 @@ use Rattle.rules.specs.State.{State}
 use Rattle.rules.specs.Building.{BuiltState}
 use Rattle.rules.specs.Machine as machine
 use Rattle.rules.specs.Machine.{step}
-use Rattle.refusals.specs.Refusal.{result_says}
-use Rattle.chart.specs.declared.Chart.{Chart}
 use Rattle.chart.specs.declared.Called.{Called}
-use Rattle.chart.specs.Chart.{chart_after}
 use Rattle.chart.specs.Soundness.{sound_chart}
-use Rattle.chart.specs.Calls.{next_chart, answer_to}
-use Rattle.chart_c.specs.declared.answers.Parts.{Parts}
-use Rattle.chart_c.specs.declared.calls.Call.{Call}
-use Rattle.chart_c.specs.declared.calls.Call.TheVariants as call
 use Rattle.chart_c.specs.Lent.{answered_number, lent_after}
-use Rattle.chart_c.specs.Answers.{count_parts, answer_outcome, building_outcome}
+use Rattle.chart_c.specs.Answers.{Parts, count_parts, answer_outcome}
 use Rattle.chart_c.specs.Forms.{Answered, front_start, if_room, kept_in, LeavesChart, parts_in}
 
 -- ---- "a word formed alone": 1, 5, 6, 7
@@ -27,20 +20,20 @@ pub record FormsWord (o : Outcome ℤ) (word word' : ℤ) (number : ℕ) : Type 
 
 -- ---- building: 1, 2, 3, 16, and then 15
 
-unfoldable pub built_outcome : List ℕ → Outcome BuiltState → Outcome Answered
+unfoldable pub built_outcome : List ℕ → Outcome BuiltState → Outcome (Answered Parts)
 built_outcome buffer a = and_then a (λ (b : BuiltState). if_room buffer b.state (count_parts b.rounds b.removed))
 
 -- ---- the four calls: 13, 14, then the machine's refusals, and then 15
 
 -- one step of the machine, from the chart in the first `size` bytes of the buffer
-unfoldable pub called : List ℕ → ℕ → machine.Call → Outcome Answered
+unfoldable pub called : List ℕ → ℕ → machine.Call → Outcome (Answered Parts)
 called buffer size c =
     and_then (front_start buffer size)
     (λ (s : State). kept_in buffer (step s c).state (answer_outcome (step s c).answer))
 
 -- ---- the contract of building and of the calls: the chart that is left, and what the lent places and the number say about the parts
 -- that are answered
-pub record Leaves (o : Outcome Answered) (before after : List ℕ) (size size' : ℕ) (Places : Outcome Parts → Type 0) : Type 0 where
+pub record Leaves (o : Outcome (Answered Parts)) (before after : List ℕ) (size size' : ℕ) (Places : Outcome Parts → Type 0) : Type 0 where
   pub chart : LeavesChart o before after size size'
   pub places : Places (parts_in o)
 
@@ -50,22 +43,6 @@ pub record Leaves (o : Outcome Answered) (before after : List ℕ) (size size' :
 unfoldable pub kind_passed : ℕ → ℕ
 kind_passed n = choose (leb n 65535) n 0
 
-unfoldable pub call_says : Call → machine.Call
-call_says (call.Post kind a b c) = machine.post kind a b c
-call_says (call.Reanalysis kind a b c) = machine.reanalysis kind a b c
-call_says call.Correction = machine.correction
-call_says call.Renewal = machine.renewal
-
--- one call on a chart
-pub record IsCalled (c : Chart) (made : machine.Call) (r : Called Parts) : Type 0 where
-  pub chart : r.chart ≡ next_chart c made
-  pub says : result_says r.answer ≡ answer_outcome (answer_to c made)
-
--- a chart that was built
-pub record IsBuilt (a : Outcome BuiltState) (r : Called Parts) : Type 0 where
-  pub chart : r.chart ≡ chart_after a
-  pub says : result_says r.answer ≡ building_outcome a
-
 -- the chart of a call that was not refused is sound
-abbrev pub SoundIfDone : Called Parts → Type 0
-SoundIfDone r = (parts : Parts) → r.answer ≡ Ok parts → sound_chart r.chart ≡ true
+abbrev pub SoundIfDone : {A : Type 0} → Called A → Type 0
+SoundIfDone {A} r = (answer : A) → r.answer ≡ Ok answer → sound_chart r.chart ≡ true

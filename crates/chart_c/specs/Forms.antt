@@ -6,7 +6,6 @@ use Rattle.rules.specs.Buffer.{at_front}
 use Rattle.rules.specs.State.{State}
 use Rattle.rules.specs.StoredForm.{stored_form, form_fits}
 use Rattle.rules.specs.Lists.{bytes_start}
-use Rattle.chart_c.specs.declared.answers.Parts.{Parts}
 use Rattle.refusals.specs.Refusal.{result_says}
 use Rattle.refusals.specs.declared.Refusal.{Refusal}
 use Rattle.chart_c.specs.Lent.{lent_after}
@@ -20,30 +19,31 @@ front_start buffer size = require (leb size (length buffer)) (refused 13) (bytes
 -- ---- a chart put into a buffer
 
 -- the chart after a call, and what the call answers
-pub record Answered : Type 0 where
+pub record Answered (A : Type 0) : Type 0 where
   pub state : State
-  pub parts : Parts
+  pub parts : A
 
 -- 15 "buffer shorter than the stored form" comes last: a call that the machine accepts is still refused if there is no room for the chart
 -- after it. Writing tests 14 before 15, but 14 never applies: building and a call on a sound chart give a sound chart
-unfoldable pub if_room : List ℕ → State → Parts → Outcome Answered
+unfoldable pub if_room : {A : Type 0} → List ℕ → State → A → Outcome (Answered A)
 if_room buffer s parts = require (form_fits s buffer) (refused 15) (given (record { state = s; parts = parts }))
 
 -- an answer that is refused stays refused. Else it is 15, or the chart and the parts
-abbrev pub kept_in : List ℕ → State → Outcome Parts → Outcome Answered
+abbrev pub kept_in : {A : Type 0} → List ℕ → State → Outcome A → Outcome (Answered A)
 kept_in buffer s o = and_then o (if_room buffer s)
 
 -- what a call leaves in the buffer and in the place of the form's size. The form goes to the front of the buffer "and leaves those after
 -- the form untouched"
-pub record LeavesChart (o : Outcome Answered) (before after : List ℕ) (size size' : ℕ) : Type 0 where
-  pub buffer : after ≡ lent_after (λ (x : Answered). at_front (stored_form x.state) before) before o
-  pub count : size' ≡ lent_after (λ (x : Answered). length (stored_form x.state)) size o
+pub record LeavesChart {A : Type 0} (o : Outcome (Answered A)) (before after : List ℕ) (size size' : ℕ) : Type 0 where
+  pub buffer : after ≡ lent_after (λ (x : Answered A). at_front (stored_form x.state) before) before o
+  pub count : size' ≡ lent_after (λ (x : Answered A). length (stored_form x.state)) size o
 
 -- the parts that are answered
-unfoldable pub parts_in : Outcome Answered → Outcome Parts
-parts_in o = and_then o (λ (x : Answered). given x.parts)
+unfoldable pub parts_in : {A : Type 0} → Outcome (Answered A) → Outcome A
+parts_in {A} o = and_then o (λ (x : Answered A). given x.parts)
 
 -- ---- what the private functions give: the chart that is left, and the answer
-pub record KeepsChart (o : Outcome Answered) (before after : List ℕ) (size size' : ℕ) (r : Result Parts Refusal) : Type 0 where
+pub record KeepsChart {A : Type 0} (o : Outcome (Answered A)) (before after : List ℕ) (size size' : ℕ) (r : Result A Refusal) :
+    Type 0 where
   pub chart : LeavesChart o before after size size'
   pub says : result_says r ≡ parts_in o

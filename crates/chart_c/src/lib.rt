@@ -6,17 +6,16 @@
 // pointer and a length, a `&mut` number as a pointer.
 #![tactic(auto)]
 
-mod answers;
 mod calls;
 mod forms;
 mod plotting;
 mod strings;
 
 ghost use Rattle.std.specs.Prelude.{◌≡◌};
-ghost use Rattle.rules.specs.Outcome.{refused};
 ghost use Rattle.rules.specs.Word.{word_alone};
 ghost use Rattle.rules.specs.Building.{building};
 ghost use Rattle.rules.specs.Machine as machine;
+ghost use Rattle.refusals.specs.Refusal as refusal;
 ghost use Rattle.texts.specs.Texts.{refusal_meaning, verdict_meaning, version};
 ghost use Rattle.chart_c.specs.Lent.{answered_number};
 ghost use Rattle.chart_c.specs.Answers.{Judges, Reanalyses, Counts};
@@ -24,9 +23,9 @@ ghost use Rattle.chart_c.specs.Calls.{FormsWord, built_outcome, called, Leaves};
 ghost use Rattle.chart_c.specs.Plotting.{drawn, Draws, compared, Compares, Checks};
 ghost use Rattle.chart_c.specs.Texts.{PutsText};
 
-use answers::{number_in, put_counts, put_judged, put_reanalysed};
-use calls::{Call, built, call_on, form_word, keep};
+use calls::{build, correct, form_word, post, reanalyse, renew};
 use plotting::{compare, draw};
+use refusals::Refusal;
 use store::held::held_in;
 use strings::{TEXT_MOST, put_string};
 use texts::{put_refusal_meaning, put_verdict_meaning, put_version};
@@ -52,7 +51,7 @@ pub extern "C" fn control_chart_build(
         chart.old chart.new size.old size.new
         (λ p. Counts p rounds.old rounds.new removed.old removed.new result) }
 {
-    number_in(put_counts(keep(built(kind, words), chart, size), rounds, removed))
+    number_in(build(kind, words, chart, size, rounds, removed))
 }
 
 #[unsafe(no_mangle)]
@@ -70,8 +69,7 @@ pub extern "C" fn control_chart_post(
         chart.old chart.new size.old size.new
         (λ p. Judges p word.old word.new verdict.old verdict.new result) }
 {
-    let call = Call::Post { kind, a, b, c };
-    number_in(put_judged(call_on(chart, size, call), word, verdict))
+    number_in(post(chart, size, kind, a, b, c, word, verdict))
 }
 
 #[unsafe(no_mangle)]
@@ -89,8 +87,7 @@ pub extern "C" fn control_chart_reanalyse(
         chart.old chart.new size.old size.new
         (λ p. Reanalyses p word.old word.new passed.old passed.new result) }
 {
-    let call = Call::Reanalysis { kind, a, b, c };
-    number_in(put_reanalysed(call_on(chart, size, call), word, passed))
+    number_in(reanalyse(chart, size, kind, a, b, c, word, passed))
 }
 
 #[unsafe(no_mangle)]
@@ -99,7 +96,7 @@ pub extern "C" fn control_chart_correct(chart: &mut [u8], size: &mut usize) -> u
         chart.old chart.new size.old size.new
         (λ p. result ≡ answered_number p) }
 {
-    number_in(call_on(chart, size, Call::Correction))
+    number_in(correct(chart, size))
 }
 
 #[unsafe(no_mangle)]
@@ -113,7 +110,7 @@ pub extern "C" fn control_chart_renew(
         chart.old chart.new size.old size.new
         (λ p. Counts p rounds.old rounds.new removed.old removed.new result) }
 {
-    number_in(put_counts(call_on(chart, size, Call::Renewal), rounds, removed))
+    number_in(renew(chart, size, rounds, removed))
 }
 
 #[unsafe(no_mangle)]
@@ -166,4 +163,15 @@ pub extern "C" fn control_chart_version(text: &mut [u8]) -> u16
     let mut number = [0u8; TEXT_MOST];
     let length = put_version(&mut number);
     number_in(put_string(&number[..length], text))
+}
+
+// The number that C gets: 0, or that of the refusal.
+#[tactic(auto, unfolding(refusals::specs::Refusal::answered_number))]
+fn number_in<A: Copy>(answer: Result<A, Refusal>) -> u16
+    ensures { result ≡ refusal.answered_number answer }
+{
+    match answer {
+        Ok(_) => 0,
+        Err(refusal) => refusal.number(),
+    }
 }

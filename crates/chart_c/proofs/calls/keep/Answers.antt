@@ -3,18 +3,27 @@ use mathlib.Core.Path.{◌≡◌, refl}
 use borrow.Author.Rules.{rules}
 use Rattle.std.specs.Prelude.{Err}
 use Rattle.refusals.specs.Refusal.{result_says}
-use Rattle.chart_c.proofs.Kept.{keeps_declined}
+use Rattle.chart_c.proofs.Kept.{keeps_declined, written, not_written_lem}
 use Rattle.chart_c.proofs.calls.keep.Goals as goal
 
-pub returns-in_err-parts : goal.returns-in_err-parts
+pub returns-in_err-answer : goal.returns-in_err-answer
 unfolding result_says
-returns-in_err-parts c =
-    let same : c.from_residual.result ≡ Err c.in_err-parts.field-0.0 = search rules in
-    rw (same, c.in_err-parts.was) (keeps_declined _ _ _ _ refl)
+returns-in_err-answer g c =
+    let same : c.from_residual.result ≡ Err c.in_err-answer.field-0.0 = search rules in
+    rw (same, c.in_err-answer.was) (keeps_declined _ _ _ _ refl)
 
-pub write_form-requires : goal.write_form-requires
-write_form-requires c = c.requires c.in_ok-parts.parts c.in_ok-parts.was
+pub write_sound-requires : goal.write_sound-requires
+write_sound-requires g c = c.requires c.in_ok-answer.answer c.in_ok-answer.was
+
+pub returns-in_err-n : goal.returns-in_err-n
+unfolding result_says
+returns-in_err-n g c =
+    let same : c.from_residual-in_err-n.result ≡ Err c.in_err-n.field-0.0 = search rules in
+    let sound = c.requires c.in_ok-answer.answer c.in_ok-answer.was in
+    rw (same, c.in_ok-answer.was) (not_written_lem _ sound _ _ _ _ _ c.in_err-n.ensures)
 
 pub returns : goal.returns
 unfolding result_says
-returns c = rw c.in_ok-parts.was c.write_form.ensures
+returns g c =
+    let sound = c.requires c.in_ok-answer.answer c.in_ok-answer.was in
+    rw c.in_ok-answer.was (written _ sound _ _ _ _ _ c.in_ok-n.ensures)

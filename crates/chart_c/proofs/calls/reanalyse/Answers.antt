@@ -1,20 +1,46 @@
 -- `chart_c::calls::reanalyse` meets its contract.
-use mathlib.Core.Path.{◌∙◌, ap}
-use Prim.Native.Nat.{ℕ}
+use mathlib.Core.Path.{◌≡◌, ◌∙◌}
+use borrow.Author.Rules.{rules}
 use mir.Facts.{to_z-of_z}
-use Rattle.rules.specs.Machine.{reanalysis, step}
-use Rattle.chart.specs.Chart.{state_of}
-use Rattle.chart.proofs.SoundCharts.{sound_chart_facts}
-use Rattle.chart_c.proofs.SameKind.{same_reanalysis}
-use Rattle.chart_c.proofs.Kept.{called_by}
+use Rattle.std.specs.Prelude.{Err}
+use Rattle.refusals.specs.Refusal.{answered_number, result_says}
+use Rattle.chart_c.proofs.Drawn.{flag_byte}
+use Rattle.chart_c.proofs.Kept.{call_refused, front_sound, next_sound, call_leaves, reanalysis_gives}
+use Rattle.chart_c.proofs.Places.{filled, not_filled, retested_parts, reanalysis_parts}
 use Rattle.chart_c.proofs.calls.reanalyse.Goals as goal
 
-pub returns : goal.returns
-returns c =
-    let a = c.args in
-    let s = state_of a.chart in
-    let kind = ap (λ (k : ℕ). step s (reanalysis k a.a a.b a.c)) c.kind_passed.ensures in
-    let same = kind ∙ same_reanalysis s (sound_chart_facts a.chart c.requires).state a.kind a.a a.b a.c in
+pub returns-in_err-before : goal.returns-in_err-before
+unfolding answered_number result_says
+returns-in_err-before c =
+    let same : c.from_residual.result ≡ Err c.in_err-before.field-0.0 = search rules in
+    rw same (call_refused _ _ _ _ c.in_err-before.ensures _ not_filled)
+
+pub reanalyse_sound-requires : goal.reanalyse_sound-requires
+reanalyse_sound-requires c = front_sound _ _ c.in_ok-before.ensures
+
+pub keep-requires : goal.keep-requires
+keep-requires c =
     let fits = c.ranges in
-    called_by same (rw (to_z-of_z fits.a, to_z-of_z fits.b, to_z-of_z fits.c) at c.reanalyse_sound-r.ensures)
-    c.reanalysed.ensures
+    let held = front_sound _ _ c.in_ok-before.ensures in
+    let made = rw (to_z-of_z fits.a, to_z-of_z fits.b, to_z-of_z fits.c) at c.reanalyse_sound.ensures in
+    let gives = reanalysis_gives held c.args.kind c.args.a c.args.b c.args.c c.kind_passed.ensures made in
+    λ answer done. next_sound _ _ _ c.in_ok-before.ensures gives
+
+pub returns-in_err-retested : goal.returns-in_err-retested
+unfolding answered_number result_says
+returns-in_err-retested c =
+    let fits = c.ranges in
+    let held = front_sound _ _ c.in_ok-before.ensures in
+    let made = rw (to_z-of_z fits.a, to_z-of_z fits.b, to_z-of_z fits.c) at c.reanalyse_sound.ensures in
+    let gives = reanalysis_gives held c.args.kind c.args.a c.args.b c.args.c c.kind_passed.ensures made in
+    let same : c.from_residual-in_err-retested.result ≡ Err c.in_err-retested.field-0.0 = search rules in
+    rw same (call_leaves _ _ _ c.in_ok-before.ensures gives retested_parts _ (reanalysis_parts _) c.in_err-retested.ensures _ not_filled)
+
+pub returns : goal.returns
+unfolding answered_number result_says
+returns c =
+    let fits = c.ranges in
+    let held = front_sound _ _ c.in_ok-before.ensures in
+    let made = rw (to_z-of_z fits.a, to_z-of_z fits.b, to_z-of_z fits.c) at c.reanalyse_sound.ensures in
+    let gives = reanalysis_gives held c.args.kind c.args.a c.args.b c.args.c c.kind_passed.ensures made in
+    call_leaves _ _ _ c.in_ok-before.ensures gives retested_parts _ (reanalysis_parts _) c.in_ok-retested.ensures _ (filled (search rules) (c.from.ensures ∙ flag_byte _))

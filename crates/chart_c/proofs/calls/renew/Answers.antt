@@ -1,7 +1,32 @@
 -- `chart_c::calls::renew` meets its contract.
-use mathlib.Core.Path.{refl}
-use Rattle.chart_c.proofs.Kept.{called_by}
+use mathlib.Core.Path.{◌≡◌, refl}
+use borrow.Author.Rules.{rules}
+use Rattle.std.specs.Prelude.{Err}
+use Rattle.refusals.specs.Refusal.{answered_number, result_says}
+use Rattle.chart_c.proofs.Kept.{call_refused, front_sound, next_sound, call_leaves}
+use Rattle.chart_c.proofs.Places.{filled, not_filled, counted_parts, renewal_parts}
 use Rattle.chart_c.proofs.calls.renew.Goals as goal
 
+pub returns-in_err-before : goal.returns-in_err-before
+unfolding answered_number result_says
+returns-in_err-before c =
+    let same : c.from_residual.result ≡ Err c.in_err-before.field-0.0 = search rules in
+    rw same (call_refused _ _ _ _ c.in_err-before.ensures _ not_filled)
+
+pub renew_sound-requires : goal.renew_sound-requires
+renew_sound-requires c = front_sound _ _ c.in_ok-before.ensures
+
+pub keep-requires : goal.keep-requires
+keep-requires c =
+    λ answer done. next_sound _ _ _ c.in_ok-before.ensures c.renew_sound.ensures
+
+pub returns-in_err-counts : goal.returns-in_err-counts
+unfolding answered_number result_says
+returns-in_err-counts c =
+    let same : c.from_residual-in_err-counts.result ≡ Err c.in_err-counts.field-0.0 = search rules in
+    rw same (call_leaves _ _ _ c.in_ok-before.ensures c.renew_sound.ensures counted_parts _ (renewal_parts _) c.in_err-counts.ensures _ not_filled)
+
 pub returns : goal.returns
-returns c = called_by refl c.renew_sound-r.ensures c.renewed.ensures
+unfolding answered_number result_says
+returns c =
+    call_leaves _ _ _ c.in_ok-before.ensures c.renew_sound.ensures counted_parts _ (renewal_parts _) c.in_ok-counts.ensures _ (filled refl refl)
