@@ -8,6 +8,7 @@ use Prim.Native.Nat.{ℕ}
 use lib.IntN.{ℤ}
 use contract.Lifetimes.{Lfts}
 use denote.Ref.{Bor}
+use Rattle.std.specs.Prelude.{Result}
 use Rattle.rules.specs.Outcome.{Outcome, given, refused}
 use Rattle.rules.specs.Sizes.{base_wanted, base_least}
 use Rattle.rules.specs.State.{State}
@@ -18,12 +19,12 @@ use Rattle.rules.specs.Machine.{Call, post, reanalysis, correction, renewal, Ans
 use Rattle.rules.proofs.Floor.{Starts}
 use Rattle.rules.proofs.Lists.{start_of_building_lem, start_of-reading}
 use Rattle.rules.proofs.Outcome.{same_given, given_not_refused}
+use Rattle.refusals.specs.declared.Refusal.{Refusal}
 use Rattle.chart.specs.declared.Chart.{Chart}
-use Rattle.chart.specs.declared.Built.{Built}
-use Rattle.chart.specs.declared.Posted.{Posted}
-use Rattle.chart.specs.declared.Reanalysed.{Reanalysed}
-use Rattle.chart.specs.declared.Corrected.{Corrected}
-use Rattle.chart.specs.declared.Renewed.{Renewed}
+use Rattle.chart.specs.declared.Called as chart
+use Rattle.chart.specs.declared.Counts.{Counts}
+use Rattle.chart.specs.declared.Judged.{Judged}
+use Rattle.chart.specs.declared.Retested.{Retested}
 use Rattle.chart.specs.Chart.{chart_of, chart_after}
 use Rattle.chart.specs.Calls.{Gives, post_says, reanalysis_says, correction_says, renewal_says, chart_after_calls, answers_to}
 use Rattle.chart.proofs.Chart.build.Reads as build-reads
@@ -31,10 +32,9 @@ use Rattle.chart.proofs.Chart.post.Reads as post-reads
 use Rattle.chart.proofs.Chart.reanalyse.Reads as reanalyse-reads
 use Rattle.chart.proofs.Chart.correct.Reads as correct-reads
 use Rattle.chart.proofs.Chart.renew.Reads as renew-reads
-use Rattle.store.specs.declared.ReadChart.{ReadChart}
 use Rattle.store.specs.Store.{chart_after_reading}
 use Rattle.store.proofs.read.Reads as read-reads
-use Rattle.lines.specs.declared.LinesAnswer.{LinesAnswer}
+use Rattle.lines.specs.declared.Lines.{Lines}
 use Rattle.lines.specs.Lines.{lines_answer_says}
 use Rattle.lines.proofs.lines_of.Reads as lines-reads
 use Rattle.lists.specs.Claim.{Claim}
@@ -42,15 +42,15 @@ use Rattle.lists.proofs.Claims.{claim_of_run}
 
 -- one call of a method, by its contract
 pub data Called : Chart → Call → Chart → Answer → Type 0 where
-  posted : {c : Chart} {kind : ℕ} {a b d : ℤ} (r : Posted)
+  posted : {c : Chart} {kind : ℕ} {a b d : ℤ} (r : chart.Called Judged)
       → post-reads.Post tt (c, (kind, (a, (b, (d, tt))))) r (c, (kind, (a, (b, (d, tt)))))
       → Called c (post kind a b d) r.chart (post_says r.answer)
-  reanalysed : {c : Chart} {kind : ℕ} {a b d : ℤ} (r : Reanalysed)
+  reanalysed : {c : Chart} {kind : ℕ} {a b d : ℤ} (r : chart.Called Retested)
       → reanalyse-reads.Post tt (c, (kind, (a, (b, (d, tt))))) r (c, (kind, (a, (b, (d, tt)))))
       → Called c (reanalysis kind a b d) r.chart (reanalysis_says r.answer)
-  corrected : {c : Chart} (r : Corrected) → correct-reads.Post tt (c, tt) r (c, tt)
+  corrected : {c : Chart} (r : chart.Called (Unit {0})) → correct-reads.Post tt (c, tt) r (c, tt)
       → Called c correction r.chart (correction_says r.answer)
-  renewed : {c : Chart} (r : Renewed) → renew-reads.Post tt (c, tt) r (c, tt)
+  renewed : {c : Chart} (r : chart.Called Counts) → renew-reads.Post tt (c, tt) r (c, tt)
       → Called c renewal r.chart (renewal_says r.answer)
 
 -- calls one after the other, from the first chart to the last
@@ -90,7 +90,7 @@ chain_answers (first {calls = calls} p rest) =
 -- ---- the claim
 
 -- from the chart that stands for a sound state
-module _ (s : State) (start last : Chart) (calls : List Call) (said : List Answer) (lines : LinesAnswer)
+module _ (s : State) (start last : Chart) (calls : List Call) (said : List Answer) (lines : Result Lines Refusal)
     (chain : Chain start calls said last) (asked : lines-reads.Post tt (last, tt) lines (last, tt)) where
   claim_from : (floor : ℕ) → Starts floor s → start ≡ chart_of s → Claim floor s calls last said (lines_answer_says lines)
   claim_from floor h is =
@@ -99,22 +99,22 @@ module _ (s : State) (start last : Chart) (calls : List Call) (said : List Answe
       (chain_answers chain ∙ ap (λ (c : Chart). answers_to c calls) is) asked
 
 -- from words that building accepts: the machine starts from the kind and the words given
-pub claim_from_words : (κs : Lfts 1) (kind : ℕ) (words : Bor (List ℤ)) (b : Built)
+pub claim_from_words : (κs : Lfts 1) (kind : ℕ) (words : Bor (List ℤ)) (b : chart.Called Counts)
     → build-reads.Post κs (kind, (words, tt)) b (kind, (words, tt))
     → (s : State) → words_start kind words.now ≡ given s
     → (calls : List Call) (said : List Answer) (last : Chart) → Chain b.chart calls said last
-    → (lines : LinesAnswer) → lines-reads.Post tt (last, tt) lines (last, tt)
+    → (lines : Result Lines Refusal) → lines-reads.Post tt (last, tt) lines (last, tt)
     → Claim base_wanted s calls last said (lines_answer_says lines)
 claim_from_words κs kind words b builds s e calls said last chain lines asked =
     claim_from s b.chart last calls said lines chain asked base_wanted (start_of_building_lem kind words.now s e)
     (builds.chart ∙ chart_of-building (building kind words.now) s e)
 
 -- from bytes that reading accepts
-pub claim_from_bytes : (κs : Lfts 1) (bytes : Bor (List ℕ)) (r : ReadChart)
+pub claim_from_bytes : (κs : Lfts 1) (bytes : Bor (List ℕ)) (r : chart.Called (Unit {0}))
     → read-reads.Post κs (bytes, tt) r (bytes, tt)
     → (s : State) → bytes_start bytes.now ≡ given s
     → (calls : List Call) (said : List Answer) (last : Chart) → Chain r.chart calls said last
-    → (lines : LinesAnswer) → lines-reads.Post tt (last, tt) lines (last, tt)
+    → (lines : Result Lines Refusal) → lines-reads.Post tt (last, tt) lines (last, tt)
     → Claim base_least s calls last said (lines_answer_says lines)
 claim_from_bytes κs bytes r is_read s e calls said last chain lines asked =
     claim_from s r.chart last calls said lines chain asked base_least (start_of-reading bytes.now s e)

@@ -8,13 +8,15 @@ use Prim.Native.Nat.{ℕ, suc, ◌+◌, ◌-◌, ◌*◌, ◌/◌, ◌<◌, ◌�
 use native.Mathlib.Omega.{arith}
 use lib.ListN.{length, drop, get_or, length-drop}
 use lib.Seq.{drop-cons}
-use lib.Dec.{T, leb, eqb}
+use lib.Dec.{leb, eqb}
 use lib.IntN.{ℤ, pos, negsuc, nat_abs}
-use lib.Signed.{lt_z, non_neg}
-use mir.Syntax.{w16, w64}
-use mir.Val.{Fits, SFits, to_z, of_z}
+use mir.Syntax.{w64}
+use mir.Val.{SFits, to_z, of_z}
 use mir.Facts.{to_z-of_z}
-use borrow.Author.Tests.{ltb-true, ltb-false, leb-true, leb-false, le-leb, lt-leb, eqb-true, eqb-false, eq-eqb, ne_eqb}
+use borrow.Author.Tests.{leb-true, leb-false, le-leb, lt-leb, eqb-true, eqb-false, eq-eqb, ne_eqb}
+use Rattle.std.specs.Prelude.{Result, Ok, Err, unsigned_abs}
+use Rattle.std.specs.Result.{OkIff, result_unwrap_or}
+use Rattle.std.specs.Int.{FitsUnsignedBits}
 use Rattle.rules.specs.Machine.{post, reanalysis, correction, renewal}
 use Rattle.rules.proofs.Booleans.{both, by_test}
 use Rattle.lists.specs.Encoding.{call_size, answer_size, is_call_number, kind_in_call, is_number, call_of, are_calls, calls_in, answers_fit}
@@ -138,27 +140,14 @@ room_is calls room t =
 
 -- ---- a number as a kind
 
-pub kind_below : (z : ℤ) → lt_z z (pos 0) ≡ true → 0 ≡ kind_in_call z
+-- r is the number as sixteen bits, if it fits these
+pub kind_is : {E : Type 0} (z : ℤ) (r : Result ℕ E) → OkIff r (FitsUnsignedBits 16 z) (unsigned_abs z)
+    → result_unwrap_or r 0 ≡ kind_in_call z
 unfolding kind_in_call
-kind_below (pos n) h = absurd (omega (arith, ltb-true n 0 h))
-kind_below (negsuc n) h = refl
-
-pub kind_above : (z : ℤ) → lt_z (pos 65535) z ≡ true → 0 ≡ kind_in_call z
-unfolding kind_in_call
-kind_above (pos n) h = rw (lt-leb n 65535 (ltb-true 65535 n h))
-kind_above (negsuc n) h = refl
-
--- a number in 0..65535 can be cast to sixteen bits, and keeps its value
-pub record IsKindNumber (z : ℤ) : Type 0 where
-  pub casts : T (non_neg z) × Fits w16 (nat_abs z)
-  pub same : nat_abs z ≡ kind_in_call z
-
-pub kind_within : (z : ℤ) → lt_z z (pos 0) ≡ false → lt_z (pos 65535) z ≡ false → IsKindNumber z
-unfolding kind_in_call
-kind_within (pos n) low high =
-    let small = ltb-false 65535 n high in
-    record { casts = (tt, record { fits = omega arith }); same = rw (le-leb n 65535 small) }
-kind_within (negsuc n) low high = absurd (false≢true (sym low))
+kind_is (pos n) (Ok k) tells = rw (tells.1, le-leb n 65535 (omega (arith, tells.0)))
+kind_is (pos n) (Err e) tells = rw (lt-leb n 65535 (by_test (leb n 65535) (λ t. absurd (tells (omega (arith, leb-true n 65535 t)))) (λ t. leb-false n 65535 t)))
+kind_is (negsuc n) (Ok k) tells = absurd tells.0
+kind_is (negsuc n) (Err e) tells = refl
 
 -- ---- a number as the number of a call, by its bits
 

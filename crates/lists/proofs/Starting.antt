@@ -9,8 +9,10 @@ use Rattle.rules.specs.Outcome.{refused}
 use Rattle.rules.specs.Lists.{start_of_building, words_start}
 use Rattle.rules.proofs.Building.{building_ind}
 use Rattle.rules.proofs.Outcome.{given_not_refused}
-use Rattle.chart.specs.declared.Built.{Built}
-use Rattle.chart.specs.declared.BuildAnswer.TheVariants as build-answer
+use Rattle.std.specs.Prelude.{Ok, Err}
+use Rattle.refusals.specs.declared.Refusal.{Refusal}
+use Rattle.chart.specs.declared.Called.{Called}
+use Rattle.chart.specs.declared.Counts.{Counts}
 use Rattle.chart.specs.Chart.{build_says, chart_after, Builds}
 use Rattle.store.specs.HeldChart.{IsHeld}
 use Rattle.store.proofs.HeldChart.{held_begun, held_declined}
@@ -21,17 +23,13 @@ building_number kind words =
     (λ k some _ n e. let same : k ≡ n = cc in omega arith)
     (λ b _ _ n e. given_not_refused e)
 
-module _ (kind : ℕ) (words : List ℤ) (r : Built) (b : Builds kind words r) where
-  pub held_built : (rounds removed : ℕ) → r.answer ≡ build-answer.Done rounds removed
-      → IsHeld (words_start kind words) (record { chart = r.chart; number = 0 })
+module _ (kind : ℕ) (words : List ℤ) (r : Called Counts) (b : Builds kind words r) where
+  pub held_built : {counts : Counts} → r.answer ≡ Ok counts → IsHeld (words_start kind words) (Ok r.chart)
   unfolding build_says chart_after
-  held_built rounds removed e =
+  held_built e =
       let says = sym b.says ∙ ap (build_says r.chart) e in
       held_begun (ap start_of_building says) (b.chart ∙ ap chart_after says)
 
-  pub held_not_built : (n : ℕ) → r.answer ≡ build-answer.Refused n
-      → IsHeld (words_start kind words) (record { chart = r.chart; number = n })
-  unfolding build_says chart_after
-  held_not_built n e =
-      let says = sym b.says ∙ ap (build_says r.chart) e in
-      held_declined (ap start_of_building says) (b.chart ∙ ap chart_after says)
+  pub held_not_built : (refusal : Refusal) → r.answer ≡ Err refusal → IsHeld (words_start kind words) (Err refusal)
+  unfolding build_says
+  held_not_built refusal e = held_declined refusal (ap start_of_building (sym b.says ∙ ap (build_says r.chart) e))

@@ -1,6 +1,6 @@
 -- What running an encoded list gives: the claim, or a refusal. Document 01 has no encoded lists. So a list that is refused for another
 -- reason than its start has no number of the paper's.
-use Rattle.std.specs.Prelude.{◌≡◌, List, [], ◌∷◌, ℕ, zero, suc, ◌+◌, ◌≤◌, get_or, ℤ, pos}
+use Rattle.std.specs.Prelude.{◌≡◌, List, [], ◌∷◌, ℕ, suc, ◌+◌, ◌≤◌, get_or, ℤ, pos, Result, Ok, Err}
 use Rattle.rules.specs.Outcome.{Outcome, given, refused}
 use Rattle.rules.specs.Choice.{require}
 use Rattle.rules.specs.Buffer.{overwritten, at_front}
@@ -8,14 +8,15 @@ use Rattle.rules.specs.Sizes.{base_wanted, base_most, base_least}
 use Rattle.rules.specs.State.{State}
 use Rattle.rules.specs.Machine.{Call, Answer, renewed}
 use Rattle.rules.specs.Lists as rules
+use Rattle.refusals.specs.Refusal.{refusal_number}
+use Rattle.refusals.specs.declared.Refusal.{Refusal}
 use Rattle.chart.specs.declared.Chart.{Chart}
 use Rattle.chart.specs.Chart.{zero_chart}
 use Rattle.chart.specs.Calls.{next_chart, answer_to, chart_after_calls, answers_to}
-use Rattle.store.specs.declared.held.Held.{Held}
 use Rattle.lines.specs.Lines.{lines_answer_says, answer_to_lines}
 use Rattle.lists.specs.declared.Run.{Run}
-use Rattle.lists.specs.declared.RunAnswer.{RunAnswer}
-use Rattle.lists.specs.declared.RunAnswer.TheVariants as run
+use Rattle.lists.specs.declared.ListRefusal.{ListRefusal}
+use Rattle.lists.specs.declared.ListRefusal.TheVariants as list
 use Rattle.lists.specs.declared.calls.Called.{Called}
 use Rattle.lists.specs.declared.answers.Said.{Said}
 use Rattle.lists.specs.Encoding.{kind_in_call, call_of, are_calls, calls_in, answers_fit, numbers_of, all_numbers_of}
@@ -30,11 +31,14 @@ pub data RunSaid : Type 0 where
   not_calls : RunSaid
   no_room : RunSaid
 
-unfoldable pub run_says : RunAnswer → RunSaid
-run_says run.Done = done
-run_says (run.StartRefused n) = start_refused n
-run_says run.NotCalls = not_calls
-run_says run.NoRoom = no_room
+unfoldable pub list_refusal_says : ListRefusal → RunSaid
+list_refusal_says (list.Start r) = start_refused (refusal_number r)
+list_refusal_says list.NotCalls = not_calls
+list_refusal_says list.NoRoom = no_room
+
+unfoldable pub run_says : Result (Unit {0}) ListRefusal → RunSaid
+run_says (Ok _) = done
+run_says (Err e) = list_refusal_says e
 
 -- the list is run from this start, or it is refused
 pub data ListOutcome (A : Type 0) : Type 0 where
@@ -93,21 +97,31 @@ pub record RanOn (c : Chart) (calls before after : List ℤ) (r : Run) : Type 0 
   pub buffer : after ≡ at_front (all_numbers_of (answers_to c (calls_in calls))) before
   pub lines : lines_answer_says r.lines ≡ answer_to_lines r.chart
 
-abbrev pub start_on : Chart → ℕ → ListOutcome Chart
-start_on c zero = runs c
-start_on c (suc n) = declines (start_refused (suc n))
+abbrev pub start_on : Result Chart Refusal → ListOutcome Chart
+start_on (Ok c) = runs c
+start_on (Err r) = declines (start_refused (refusal_number r))
 
 abbrev pub RunGivesOn : ListOutcome Chart → (calls before after : List ℤ) → Run → Type 0
 RunGivesOn (runs c) calls before after r = RanOn c calls before after r
 RunGivesOn (declines answer) calls before after r = Declined answer before after r
 
-abbrev pub RunsFrom : Held → (calls before after : List ℤ) → Run → Type 0
-RunsFrom start calls before after r = RunGivesOn (outcome_of (start_on start.chart start.number) calls before) calls before after r
+abbrev pub RunsFrom : Result Chart Refusal → (calls before after : List ℤ) → Run → Type 0
+RunsFrom start calls before after r = RunGivesOn (outcome_of (start_on start) calls before) calls before after r
 
 -- the chart after the calls, and their answers
 pub record RunsCalls (c : Chart) (calls before after : List ℤ) (last : Chart) : Type 0 where
   pub chart : last ≡ chart_after_calls c (calls_in calls)
   pub buffer : after ≡ at_front (all_numbers_of (answers_to c (calls_in calls))) before
+
+-- the chart after the calls, or why the list is refused. A refused list does not change the buffer
+abbrev pub TriesOn : ListOutcome Chart → (calls before after : List ℤ) → Result Chart ListRefusal → Type 0
+TriesOn (runs c) calls before after (Ok last) = RunsCalls c calls before after last
+TriesOn (runs c) calls before after (Err e) = ⊥
+TriesOn (declines answer) calls before after (Ok last) = ⊥
+TriesOn (declines answer) calls before after (Err e) = (list_refusal_says e ≡ answer) × (after ≡ before)
+
+abbrev pub TriesFrom : Result Chart Refusal → (calls before after : List ℤ) → Result Chart ListRefusal → Type 0
+TriesFrom start calls before after r = TriesOn (outcome_of (start_on start) calls before) calls before after r
 
 -- the call that stands at a place of the numbers
 unfoldable pub call_at : List ℤ → ℕ → Call

@@ -32,10 +32,11 @@ pub fn are_calls(numbers: &[i64]) -> bool
     at == numbers.len()
 }
 
+#[tactic(auto, unfolding(crate::specs::Encoding::is_call_number))]
 fn is_call_number(number: i64) -> bool
     ensures { result ≡ is_call_number number }
 {
-    (1 <= number) & (number <= 4)
+    (1..=4).contains(&number)
 }
 
 // Makes the call at a place of the list, and puts its answer into the buffer.
@@ -45,57 +46,59 @@ pub fn call_at(chart: Chart, calls: &[i64], at: usize, answers: &mut [i64], plac
 {
     let number = calls[at];
     let kind = kind_in_call(calls[at + 1]);
-    let a = calls[at + 2];
-    let b = calls[at + 3];
-    let c = calls[at + 4];
-    let r = call(chart, number, kind, a, b, c);
-    let next = r.chart;
+    let r = call(
+        chart,
+        number,
+        kind,
+        calls[at + 2],
+        calls[at + 3],
+        calls[at + 4],
+    );
     put_answer(answers, place, r.said);
-    next
+    r.chart
 }
 
 // A number in 0..65535 is itself the kind. Any other number is not a chart's kind. It becomes 0, which is not one either.
+#[tactic(auto, using(crate::proofs::Decoding::kind_is))]
 fn kind_in_call(number: i64) -> u16
     ensures { result ≡ kind_in_call number }
 {
-    if number < 0 {
-        return 0;
-    }
-    if 65535 < number {
-        return 0;
-    }
-    number as u16
+    u16::try_from(number).unwrap_or(0)
 }
 
 // One call on a chart.
 fn call(chart: Chart, number: i64, kind: u16, a: i64, b: i64, c: i64) -> Called
     ensures { IsCalled chart (call_of number kind a b c) result }
 {
-    if number == 1 {
-        let r = chart.post(kind, a, b, c);
-        let after = r.chart;
-        let answer = r.answer;
-        let said = said_by_post(answer);
-        return Called { chart: after, said };
+    match number {
+        1 => {
+            let r = chart.post(kind, a, b, c);
+            Called {
+                chart: r.chart,
+                said: said_by_post(r.answer),
+            }
+        }
+        2 => {
+            let r = chart.reanalyse(kind, a, b, c);
+            Called {
+                chart: r.chart,
+                said: said_by_reanalysis(r.answer),
+            }
+        }
+        3 => {
+            let r = chart.correct();
+            Called {
+                chart: r.chart,
+                said: said_by_correction(r.answer),
+            }
+        }
+        // 4, the only other number of a call.
+        _ => {
+            let r = chart.renew();
+            Called {
+                chart: r.chart,
+                said: said_by_renewal(r.answer),
+            }
+        }
     }
-    if number == 2 {
-        let r = chart.reanalyse(kind, a, b, c);
-        let after = r.chart;
-        let answer = r.answer;
-        let said = said_by_reanalysis(answer);
-        return Called { chart: after, said };
-    }
-    if number == 3 {
-        let r = chart.correct();
-        let after = r.chart;
-        let answer = r.answer;
-        let said = said_by_correction(answer);
-        return Called { chart: after, said };
-    }
-    // 4, the only other number of a call.
-    let r = chart.renew();
-    let after = r.chart;
-    let answer = r.answer;
-    let said = said_by_renewal(answer);
-    Called { chart: after, said }
 }

@@ -16,33 +16,43 @@ mod calls;
 ghost use Rattle.std.specs.Prelude.{◌≡◌, true};
 ghost use Rattle.rules.specs.Lists.{words_start};
 ghost use Rattle.store.specs.HeldChart.{IsHeld};
+ghost use Rattle.lists.specs.declared.ListRefusal.TheVariants.{Start};
 ghost use Rattle.lists.specs.Encoding.{are_calls, answers_fit};
-ghost use Rattle.lists.specs.Runs.{RunsFromWords, RunsFromBytes, RunsFrom, RunsCalls, NothingRun, run_says};
+ghost use Rattle.lists.specs.Runs.{RunsFromWords, RunsFromBytes, RunsFrom, TriesFrom, RunsCalls};
 
 use answers::ANSWER_SIZE;
 use calls::{CALL_SIZE, are_calls, call_at};
-use chart::{BuildAnswer, Chart, zero_chart};
-use lines::{LinesAnswer, lines_of};
-use store::held::{Held, held_in};
+use chart::{Chart, zero_chart};
+use lines::{Lines, lines_of};
+use refusals::Refusal;
+use store::held::held_in;
 
-#[derive(Clone, Copy)]
-pub enum RunAnswer {
-    // The list was run, and its answers stand in the buffer.
-    Done,
-    // Building or reading refused, with this number.
-    StartRefused(u16),
+// Why a list is refused.
+#[derive(Clone, Copy, Debug, PartialEq, Eq)]
+pub enum ListRefusal {
     // The numbers are not a list of calls.
     NotCalls,
     // The buffer has no room for the answers.
     NoRoom,
+    // Building or reading refused.
+    Start(Refusal),
+}
+
+impl From<Refusal> for ListRefusal {
+    ghost from_gives = { λ refusal e. e ≡ Start refusal };
+
+    fn from(refusal: Refusal) -> ListRefusal {
+        ListRefusal::Start(refusal)
+    }
 }
 
 #[derive(Clone, Copy)]
 pub struct Run {
     pub chart: Chart,
-    pub answer: RunAnswer,
+    // If the list was run, its answers stand in the buffer.
+    pub answer: Result<(), ListRefusal>,
     // The lines of that chart.
-    pub lines: LinesAnswer,
+    pub lines: Result<Lines, Refusal>,
 }
 
 // Builds a chart from words, and runs a list of calls from it.
@@ -60,51 +70,48 @@ pub fn run_from_bytes(bytes: &[u8], calls: &[i64], answers: &mut [i64]) -> Run
 }
 
 // The chart that is built of these words.
-fn held_of(kind: u16, words: &[i16]) -> Held
+#[tactic(auto, using(crate::proofs::Starting::held_built, crate::proofs::Starting::held_not_built))]
+fn held_of(kind: u16, words: &[i16]) -> Result<Chart, Refusal>
     ensures { IsHeld (words_start kind words.now) result }
 {
     let b = Chart::build(kind, words);
-    let chart = b.chart;
-    let answer = b.answer;
-    match answer {
-        BuildAnswer::Done { rounds, removed } => Held { chart, number: 0 },
-        BuildAnswer::Refused(n) => Held { chart, number: n },
-    }
+    b.answer?;
+    Ok(b.chart)
 }
 
-// Runs the list, unless it is refused.
-fn run_from(start: Held, calls: &[i64], answers: &mut [i64]) -> Run
+// Runs the list, unless it is refused. A refused list gives the chart of zeros.
+fn run_from(start: Result<Chart, Refusal>, calls: &[i64], answers: &mut [i64]) -> Run
     ensures { RunsFrom start calls.now answers.old answers.new result }
 {
-    let chart = start.chart;
-    let refusal = start.number;
-    if !are_calls(calls) {
-        return not_run(RunAnswer::NotCalls);
-    }
-    if answers.len() / ANSWER_SIZE < calls.len() / CALL_SIZE {
-        return not_run(RunAnswer::NoRoom);
-    }
-    if refusal != 0 {
-        return not_run(RunAnswer::StartRefused(refusal));
-    }
-    let after = run_calls(chart, calls, answers);
-    Run {
-        chart: after,
-        answer: RunAnswer::Done,
-        lines: lines_of(after),
-    }
-}
-
-// The result if nothing is run.
-fn not_run(answer: RunAnswer) -> Run
-    ensures { NothingRun (run_says answer) result }
-{
-    let chart = zero_chart();
+    let (chart, answer) = match try_run(start, calls, answers) {
+        Ok(after) => (after, Ok(())),
+        Err(refusal) => (zero_chart(), Err(refusal)),
+    };
     Run {
         chart,
         answer,
         lines: lines_of(chart),
     }
+}
+
+// The chart after the calls, unless the list is refused. A refused list does not change the buffer.
+#[tactic(auto, using(crate::proofs::Outcomes::without_calls, crate::proofs::Outcomes::without_room, crate::proofs::Outcomes::without_start, crate::proofs::Outcomes::with_all, crate::proofs::Outcomes::fits_room))]
+fn try_run(
+    start: Result<Chart, Refusal>,
+    calls: &[i64],
+    answers: &mut [i64],
+) -> Result<Chart, ListRefusal>
+    ensures { TriesFrom start calls.now answers.old answers.new result }
+{
+    if !are_calls(calls) {
+        return Err(ListRefusal::NotCalls);
+    }
+    let short = answers.len() / ANSWER_SIZE < calls.len() / CALL_SIZE;
+    if short {
+        return Err(ListRefusal::NoRoom);
+    }
+    let chart = start?;
+    Ok(run_calls(chart, calls, answers))
 }
 
 // Makes the calls one after the other, each on the chart that the one before gave back.

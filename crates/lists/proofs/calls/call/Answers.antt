@@ -1,39 +1,35 @@
 -- `lists::calls::call` meets its contract.
+use borrow.Author.Rules.{rules}
 use mir.Facts.{to_z-of_z}
 use Rattle.rules.specs.Machine.{renewal}
 use Rattle.lists.proofs.Decoding.{post_is, reanalysis_is, correction_is, renewal_is}
 use Rattle.lists.proofs.Running.{called, counted}
 use Rattle.lists.proofs.calls.call.Goals as goal
 
-pub returns-then-number-eq1 : goal.returns-then-number-eq1
-returns-then-number-eq1 c =
+pub returns-in-1 : goal.returns-in-1
+returns-in-1 c =
     let a = c.args in
-    let e = post_is a.number a.kind a.a a.b a.c c.ranges.number c.if-number-eq1.true in
-    called e (rw (to_z-of_z c.ranges.a, to_z-of_z c.ranges.b, to_z-of_z c.ranges.c) at c.post-r.ensures)
-    c.said_by_post-said.ensures
+    let e = post_is a.number a.kind a.a a.b a.c c.ranges.number (search rules) in
+    called e (rw (to_z-of_z c.ranges.a, to_z-of_z c.ranges.b, to_z-of_z c.ranges.c) at c.post-r.ensures) c.said_by_post.ensures
 
-pub returns-then-number-eq2 : goal.returns-then-number-eq2
-returns-then-number-eq2 c =
+pub returns-in-2 : goal.returns-in-2
+returns-in-2 c =
     let a = c.args in
-    let e = reanalysis_is a.number a.kind a.a a.b a.c c.ranges.number c.if-number-eq1.false
-    c.if-number-eq2.true in
+    let e = reanalysis_is a.number a.kind a.a a.b a.c c.ranges.number (search rules) (search rules) in
     called e (rw (to_z-of_z c.ranges.a, to_z-of_z c.ranges.b, to_z-of_z c.ranges.c) at c.reanalyse-r.ensures)
-    c.said_by_reanalysis-said.ensures
+    c.said_by_reanalysis.ensures
 
-pub returns-then-number-eq3 : goal.returns-then-number-eq3
-returns-then-number-eq3 c =
+pub returns-in-3 : goal.returns-in-3
+returns-in-3 c =
     let a = c.args in
-    let e = correction_is a.number a.kind a.a a.b a.c c.ranges.number c.if-number-eq1.false
-    c.if-number-eq2.false c.if-number-eq3.true in
-    called e c.correct-r.ensures c.said_by_correction-said.ensures
+    let e = correction_is a.number a.kind a.a a.b a.c c.ranges.number (search rules) (search rules) (search rules) in
+    called e c.correct-r.ensures c.said_by_correction.ensures
 
-pub said_by_renewal-said-requires : goal.said_by_renewal-said-requires
-said_by_renewal-said-requires c =
-    rw c.renew-r.ensures.says (counted c.args.chart renewal)
+pub said_by_renewal-requires : goal.said_by_renewal-requires
+said_by_renewal-requires c = rw c.renew-r.ensures.says (counted c.args.chart renewal)
 
-pub returns : goal.returns
-returns c =
+pub returns-in_default : goal.returns-in_default
+returns-in_default c =
     let a = c.args in
-    let e = renewal_is a.number a.kind a.a a.b a.c c.ranges.number c.if-number-eq1.false
-    c.if-number-eq2.false c.if-number-eq3.false in
-    called e c.renew-r.ensures c.said_by_renewal-said.ensures
+    let e = renewal_is a.number a.kind a.a a.b a.c c.ranges.number (search rules) (search rules) (search rules) in
+    called e c.renew-r.ensures c.said_by_renewal.ensures
