@@ -145,7 +145,9 @@ pub kind_is : {E : Type 0} (z : ℤ) (r : Result ℕ E) → OkIff r (FitsUnsigne
     → result_unwrap_or r 0 ≡ kind_in_call z
 unfolding kind_in_call
 kind_is (pos n) (Ok k) tells = rw (tells.1, le-leb n 65535 (omega (arith, tells.0)))
-kind_is (pos n) (Err e) tells = rw (lt-leb n 65535 (by_test (leb n 65535) (λ t. absurd (tells (omega (arith, leb-true n 65535 t)))) (λ t. leb-false n 65535 t)))
+kind_is (pos n) (Err e) tells =
+    let large = by_test (leb n 65535) (λ t. absurd (tells (omega (arith, leb-true n 65535 t)))) (λ t. leb-false n 65535 t) in
+    rw (lt-leb n 65535 large)
 kind_is (negsuc n) (Ok k) tells = absurd tells.0
 kind_is (negsuc n) (Err e) tells = refl
 

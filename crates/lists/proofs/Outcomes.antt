@@ -73,6 +73,8 @@ module _ (start : Result Chart Refusal) (calls room : List ℤ) where
       unfolding outcome_of
       with_all e ran = rw (listed, fits_room calls room listed enough, e) ran
 
+pub ruleset tests = (fits_room, without_calls, without_room, without_start, with_all)
+
 -- ---- the result of what was tried
 
 module _ (calls room out : List ℤ) (lines : Result Lines Refusal) where

@@ -95,7 +95,7 @@ fn run_from(start: Result<Chart, Refusal>, calls: &[i64], answers: &mut [i64]) -
 }
 
 // The chart after the calls, unless the list is refused. A refused list does not change the buffer.
-#[tactic(auto, using(crate::proofs::Outcomes::without_calls, crate::proofs::Outcomes::without_room, crate::proofs::Outcomes::without_start, crate::proofs::Outcomes::with_all, crate::proofs::Outcomes::fits_room))]
+#[tactic(auto, using(crate::proofs::Outcomes::tests))]
 fn try_run(
     start: Result<Chart, Refusal>,
     calls: &[i64],

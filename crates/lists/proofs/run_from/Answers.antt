@@ -11,5 +11,7 @@ returns c =
     let start = outcome_of (start_on c.args.start) calls room in
     elim c.match-try_run.branch [
       | in-Ok w ↦ rw w.answer-is (was_run calls room _ _ start w.in-Ok.after w.in-Ok.ensures (rw w.answer-is at c.lines_of.ensures))
-      | in-Err w ↦ rw (w.answer-is, w.zero_chart.ensures) (not_run calls room _ _ start w.in-Err.refusal w.in-Err.ensures (rw (w.answer-is, w.zero_chart.ensures) at c.lines_of.ensures))
+      | in-Err w ↦
+          let asked = rw (w.answer-is, w.zero_chart.ensures) at c.lines_of.ensures in
+          rw (w.answer-is, w.zero_chart.ensures) (not_run calls room _ _ start w.in-Err.refusal w.in-Err.ensures asked)
     ]
