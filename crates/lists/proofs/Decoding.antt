@@ -1,22 +1,28 @@
 -- Laws of the calls in a list of numbers: one call at a time (`are_calls_next`, `calls_next`, `call_read`), the end of the list
--- (`are_calls_short`, `are_calls_end`), how many calls there are (`count_is`), the room for their answers (`room_is`), and a number as a
--- kind and as the number of a call.
+-- (`are_calls_short`), the list as chunks of five (`all_chunks`), how many calls there are (`count_is`, `left_over`), the room for their
+-- answers (`room_is`), and a number as a kind and as the number of a call.
 use mathlib.Core.Path.{◌≡◌, refl, sym, ap, ◌∙◌}
 use mathlib.Core.Bool.{Bool, true, false, ◌&&◌, false≢true}
-use mathlib.Core.List.{List, [], ◌∷◌}
-use Prim.Native.Nat.{ℕ, suc, ◌+◌, ◌-◌, ◌*◌, ◌/◌, ◌<◌, ◌≤◌, ◌^◌}
+use mathlib.Core.List.{List, [], ◌∷◌, ◌++◌}
+use denote.Ref.{Bor}
+use denote.Param.Members.{Mut}
+use Prim.Native.Nat.{ℕ, suc, ◌+◌, ◌*◌, ◌/◌, ◌<◌, ◌≤◌, ◌^◌}
 use native.Mathlib.Omega.{arith}
-use lib.ListN.{length, drop, get_or, length-drop}
+use lib.ListN.{length, drop, get_or, length-drop, length-append}
 use lib.Seq.{drop-cons}
 use lib.Dec.{leb, eqb}
 use lib.IntN.{ℤ, pos, negsuc, nat_abs}
 use mir.Syntax.{w64}
 use mir.Val.{SFits, to_z, of_z}
 use mir.Facts.{to_z-of_z}
-use borrow.Author.Tests.{leb-true, leb-false, le-leb, lt-leb, eqb-true, eqb-false, eq-eqb, ne_eqb}
-use Rattle.std.specs.Prelude.{Result, Ok, Err, unsigned_abs}
+use borrow.Author.Tests.{leb-true, leb-false, le-leb, lt-leb, eqb-true, eq-eqb, ne_eqb}
+use Rattle.std.specs.Prelude.{Result, Ok, Err, unsigned_abs, Option, Some, None, ◌%◌}
 use Rattle.std.specs.Result.{OkIff, result_unwrap_or}
 use Rattle.std.specs.Int.{FitsUnsignedBits}
+use Rattle.std.specs.Fn.{Called}
+use Rattle.std.specs.Option.{MatchOption}
+use Rattle.std.specs.Iterator.{Yields, YieldsThen}
+use Rattle.std.specs.List.{FoldsTo}
 use Rattle.rules.specs.Machine.{post, reanalysis, correction, renewal}
 use Rattle.rules.proofs.Booleans.{both, by_test}
 use Rattle.lists.specs.Encoding.{call_size, answer_size, is_call_number, kind_in_call, is_number, call_of, are_calls, calls_in, answers_fit}
@@ -40,17 +46,9 @@ module _ (numbers : List ℤ) (at : ℕ) (h : at + call_size ≤ length numbers)
         next_number numbers (at + 4) (at + call_size) (omega arith) (omega arith),
       )
 
-  pub are_calls_next : are_calls (drop at numbers) ≡ (is_call_number (get_or numbers at (pos 0)) && are_calls (drop (at + call_size) numbers))
+  are_calls_next : are_calls (drop at numbers) ≡ (is_call_number (get_or numbers at (pos 0)) && are_calls (drop (at + call_size) numbers))
   unfolding are_calls
   are_calls_next = rw five
-
-  -- by the outcome of the test of the first number
-  pub are_calls_fails : is_call_number (get_or numbers at (pos 0)) ≡ false → are_calls (drop at numbers) ≡ false
-  are_calls_fails e = are_calls_next ∙ ap (λ (b : Bool). b && are_calls (drop (at + call_size) numbers)) e
-
-  pub are_calls-passes : is_call_number (get_or numbers at (pos 0)) ≡ true
-      → are_calls (drop at numbers) ≡ are_calls (drop (at + call_size) numbers)
-  are_calls-passes e = are_calls_next ∙ ap (λ (b : Bool). b && are_calls (drop (at + call_size) numbers)) e
 
   pub are_calls_rest : are_calls (drop at numbers) ≡ true → are_calls (drop (at + call_size) numbers) ≡ true
   are_calls_rest t =
@@ -93,15 +91,6 @@ are_calls_short (a ∷ b ∷ c ∷ []) h = refl
 are_calls_short (a ∷ b ∷ c ∷ d ∷ []) h = refl
 are_calls_short (a ∷ b ∷ c ∷ d ∷ e ∷ rest) h = absurd (omega arith)
 
-pub are_calls_end : (numbers : List ℤ) (at : ℕ) → at ≤ length numbers → length numbers - at < call_size
-    → eqb at (length numbers) ≡ are_calls (drop at numbers)
-are_calls_end numbers at within few =
-    let count = length-drop at numbers in
-    sym (are_calls_short (drop at numbers) (omega arith)
-    ∙ by_test (eqb at (length numbers))
-    (λ t. eq-eqb (length (drop at numbers)) 0 (omega (arith, eqb-true at (length numbers) t)) ∙ sym t)
-    (λ t. ne_eqb (length (drop at numbers)) 0 (λ e. eqb-false at (length numbers) t (omega arith)) ∙ sym t))
-
 -- .. so if the numbers from a place on are calls, and there are some, there is a whole call
 pub call_left : (numbers : List ℤ) (at : ℕ) → are_calls (drop at numbers) ≡ true → at < length numbers → at + call_size ≤ length numbers
 call_left numbers at t h =
@@ -111,6 +100,67 @@ call_left numbers at t h =
     let short = are_calls_short (drop at numbers) (leb-false call_size (length (drop at numbers)) few) in
     let none = eqb-true (length (drop at numbers)) 0 (sym short ∙ t) in
     absurd (omega (arith, length-drop at numbers)))
+
+-- ---- the list as chunks of five
+
+-- one more chunk
+are_calls_chunk : (call rest : List ℤ) → length call ≡ call_size
+    → are_calls (call ++ rest) ≡ (is_call_number (get_or call 0 (pos 0)) && are_calls rest)
+unfolding are_calls
+are_calls_chunk (a ∷ b ∷ c ∷ d ∷ e ∷ []) rest h = refl
+are_calls_chunk [] rest h = absurd (omega arith)
+are_calls_chunk (a ∷ []) rest h = absurd (omega arith)
+are_calls_chunk (a ∷ b ∷ []) rest h = absurd (omega arith)
+are_calls_chunk (a ∷ b ∷ c ∷ []) rest h = absurd (omega arith)
+are_calls_chunk (a ∷ b ∷ c ∷ d ∷ []) rest h = absurd (omega arith)
+are_calls_chunk (a ∷ b ∷ c ∷ d ∷ e ∷ f ∷ more) rest h = absurd (omega arith)
+
+-- chunks that begin with the number of a call are passed over
+record Passed (before after : List ℤ) : Type 0 where
+  same : are_calls before ≡ are_calls after
+  count : length before % call_size ≡ length after % call_size
+
+module _ {S F : Type 0} (steps : S → Option (Bor (List ℤ)) → S → Type 0) (rest : S → List ℤ) (size : S → ℕ)
+    (more : (s t : S) (x : Bor (List ℤ)) → steps s (Some x) t
+    → (size t ≡ size s) × (rest s ≡ x.now ++ rest t) × (length x.now ≡ size s))
+    (no_more : (s t : S) → steps s None t → length (rest s) < size s)
+    {g : Mut F (Bor (List ℤ) × Unit {0}) Bool}
+    (test : (p q : F) (x : Bor (List ℤ)) (b : Bool) → Called g p (x, tt) b q → b ≡ is_call_number (get_or x.now 0 (pos 0))) where
+  next_chunk : (s t : S) (x : Bor (List ℤ)) → size s ≡ call_size → steps s (Some x) t
+      → are_calls (rest s) ≡ (is_call_number (get_or x.now 0 (pos 0)) && are_calls (rest t))
+  next_chunk s t x of_five step =
+      let one = more s t x step in rw one.1 (are_calls_chunk x.now (rest t) (one.2 ∙ of_five))
+
+  passed : (xs : List (Bor (List ℤ))) (s t : S) (p q : F) → size s ≡ call_size → Yields steps s xs t
+      → FoldsTo (λ p x q. Called g p (x, tt) true q) p xs q → Passed (rest s) (rest t) × (size t ≡ call_size)
+  passed [] s t p q of_five y f = (rw y (record { same = refl; count = refl }), rw y at of_five)
+  passed (x ∷ xs) s t p q of_five (j, step, y) (k, called, f) =
+      let one = more s j x step in
+      let after = passed xs j t k q (one.0 ∙ of_five) y f in
+      let long : length (rest s) ≡ length x.now + length (rest j) = ap length one.1 ∙ length-append x.now (rest j) in
+      let holds = sym (test p k x true called) in (
+        record {
+          same = next_chunk s j x of_five step ∙ (ap (λ (b : Bool). b && are_calls (rest j)) holds ∙ after.0.same);
+          count = omega (arith, long, one.2, of_five, after.0.count);
+        },
+        after.1,
+      )
+
+  -- r is whether each chunk begins with the number of a call, and no number is left over
+  pub all_chunks : (s u : S) (p : F) (r : Bool) → size s ≡ call_size → length (rest s) % call_size ≡ 0
+      → (xs : List (Bor (List ℤ))) × (o : Option (Bor (List ℤ))) × (q : F) × YieldsThen steps s xs o u
+      × FoldsTo (λ p x q. Called g p (x, tt) true q) p xs q
+      × MatchOption o (r ≡ true) (λ x. (r ≡ false) × ((h : F) × Called g q (x, tt) false h))
+      → r ≡ are_calls (rest s)
+  all_chunks s u p r of_five whole (xs, None, q, (t, y, last), f, e) =
+      let (over, size_lem) = passed xs s t p q of_five y f in
+      let few : length (rest t) < call_size = omega (arith, no_more t u last, size_lem) in
+      let none : length (rest t) ≡ 0 = omega (arith, over.count) in
+      e ∙ sym (over.same ∙ (are_calls_short (rest t) few ∙ eq-eqb (length (rest t)) 0 none))
+  all_chunks s u p r of_five whole (xs, Some x, q, (t, y, last), f, (e, (h, called))) =
+      let (over, size_lem) = passed xs s t p q of_five y f in
+      let fails = sym (test q h x false called) in
+      e ∙ sym (over.same ∙ (next_chunk t u x size_lem last ∙ ap (λ (b : Bool). b && are_calls (rest u)) fails))
 
 -- ---- how many calls there are, and the room for their answers
 
@@ -123,6 +173,10 @@ count_is (number ∷ []) t = absurd (false≢true t)
 count_is (number ∷ kind ∷ []) t = absurd (false≢true t)
 count_is (number ∷ kind ∷ a ∷ []) t = absurd (false≢true t)
 count_is (number ∷ kind ∷ a ∷ b ∷ []) t = absurd (false≢true t)
+
+-- .. so if numbers are left over, they are no calls
+pub left_over : (numbers : List ℤ) → (length numbers % call_size ≡ 0 → ⊥) → are_calls numbers ≡ false
+left_over numbers over = by_test (are_calls numbers) (λ t. absurd (over (omega (arith, count_is numbers t)))) (λ t. t)
 
 -- a buffer has room for the answers exactly if it has at least as many groups of three as the list has groups of five
 pub room_is : (calls room : List ℤ) → are_calls calls ≡ true

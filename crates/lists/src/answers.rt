@@ -1,6 +1,4 @@
 // Answers as numbers, three to each.
-#![tactic(auto, using(crate::proofs::Numbers::passed_is, crate::proofs::Numbers::put_three), unfolding(crate::specs::Encoding::numbers_of, crate::specs::Runs::said_numbers, chart::specs::Calls::post_says, chart::specs::Calls::reanalysis_says, chart::specs::Calls::correction_says, chart::specs::Calls::renewal_says))]
-
 ghost use Rattle.std.specs.Prelude.{◌≡◌, ◌+◌, ◌≤◌, length};
 ghost use Rattle.rules.specs.Buffer.{overwritten};
 ghost use Rattle.rules.specs.Machine.{refused};
@@ -23,6 +21,7 @@ pub struct Said {
     pub second: i64,
 }
 
+#[tactic(auto, unfolding(crate::specs::Encoding::numbers_of, crate::specs::Runs::said_numbers, chart::specs::Calls::post_says))]
 pub fn said_by_post(answer: Result<Judged, Refusal>) -> Said
     ensures { said_numbers result ≡ numbers_of (post_says answer) }
 {
@@ -36,6 +35,7 @@ pub fn said_by_post(answer: Result<Judged, Refusal>) -> Said
     }
 }
 
+#[tactic(auto, unfolding(crate::specs::Encoding::numbers_of, crate::specs::Runs::said_numbers, chart::specs::Calls::reanalysis_says))]
 pub fn said_by_reanalysis(answer: Result<Retested, Refusal>) -> Said
     ensures { said_numbers result ≡ numbers_of (reanalysis_says answer) }
 {
@@ -49,6 +49,7 @@ pub fn said_by_reanalysis(answer: Result<Retested, Refusal>) -> Said
     }
 }
 
+#[tactic(auto, unfolding(crate::specs::Encoding::numbers_of, crate::specs::Runs::said_numbers, chart::specs::Calls::correction_says))]
 pub fn said_by_correction(answer: Result<(), Refusal>) -> Said
     ensures { said_numbers result ≡ numbers_of (correction_says answer) }
 {
@@ -63,6 +64,7 @@ pub fn said_by_correction(answer: Result<(), Refusal>) -> Said
 }
 
 // The counts of a renewal are small, so they keep their value as signed numbers.
+#[tactic(auto, unfolding(crate::specs::Encoding::numbers_of, crate::specs::Runs::said_numbers, chart::specs::Calls::renewal_says))]
 pub fn said_by_renewal(answer: Result<Counts, Refusal>) -> Said
     requires { Counted (renewal_says answer) }
     ensures { said_numbers result ≡ numbers_of (renewal_says answer) }
@@ -78,6 +80,7 @@ pub fn said_by_renewal(answer: Result<Counts, Refusal>) -> Said
 }
 
 // Puts the three numbers into the buffer from a place on.
+#[tactic(auto, using(crate::proofs::Numbers::put_three))]
 pub fn put_answer(answers: &mut [i64], place: usize, said: Said)
     requires { place + answer_size ≤ length answers.old }
     ensures { answers.new ≡ overwritten answers.old place (said_numbers said) }
@@ -85,6 +88,7 @@ pub fn put_answer(answers: &mut [i64], place: usize, said: Said)
     answers[place..place + ANSWER_SIZE].copy_from_slice(&[said.number, said.first, said.second]);
 }
 
+#[tactic(auto, unfolding(crate::specs::Encoding::numbers_of, crate::specs::Runs::said_numbers))]
 fn refused(refusal: Refusal) -> Said
     ensures { said_numbers result ≡ numbers_of (refused (refusal_number refusal)) }
 {

@@ -22,14 +22,8 @@ pub struct Called {
 pub fn are_calls(numbers: &[i64]) -> bool
     ensures { result ≡ are_calls numbers.now }
 {
-    let mut at: usize = 0;
-    while CALL_SIZE <= numbers.len() - at {
-        if !is_call_number(numbers[at]) {
-            return false;
-        }
-        at += CALL_SIZE;
-    }
-    at == numbers.len()
+    let mut calls = numbers.chunks_exact(CALL_SIZE);
+    calls.remainder().is_empty() && calls.all(|call| is_call_number(call[0]))
 }
 
 #[tactic(auto, unfolding(crate::specs::Encoding::is_call_number))]

@@ -120,12 +120,8 @@ fn run_calls(start: Chart, calls: &[i64], answers: &mut [i64]) -> Chart
     ensures { RunsCalls start calls.now answers.old answers.new result }
 {
     let mut chart = start;
-    let mut at: usize = 0;
-    let mut place: usize = 0;
-    while at < calls.len() {
-        chart = call_at(chart, calls, at, answers, place);
-        at += CALL_SIZE;
-        place += ANSWER_SIZE;
+    for i in 0..calls.len() / CALL_SIZE {
+        chart = call_at(chart, calls, i * CALL_SIZE, answers, i * ANSWER_SIZE);
     }
     chart
 }
