@@ -68,8 +68,10 @@ held_at_lem numbers i fits = to_z-of_z fits
 -- the five numbers that are read at a place give the call at that place
 pub call_read : (numbers : List ℤ) (at kind : ℕ)
     → SFits w64 (get_or numbers at (pos 0)) → SFits w64 (get_or numbers (at + 1) (pos 0)) → SFits w64 (get_or numbers (at + 2) (pos 0))
-    → SFits w64 (get_or numbers (at + 3) (pos 0)) → SFits w64 (get_or numbers (at + 4) (pos 0)) → kind ≡ kind_in_call (held_at numbers (at + 1))
-    → call_of (held_at numbers at) kind (held_at numbers (at + 2)) (held_at numbers (at + 3)) (held_at numbers (at + 4)) ≡ call_at numbers at
+    → SFits w64 (get_or numbers (at + 3) (pos 0)) → SFits w64 (get_or numbers (at + 4) (pos 0))
+    → kind ≡ kind_in_call (held_at numbers (at + 1))
+    → call_of (held_at numbers at) kind (held_at numbers (at + 2)) (held_at numbers (at + 3)) (held_at numbers (at + 4))
+    ≡ call_at numbers at
 unfolding call_at
 call_read numbers at kind f g h i j e =
     rw (

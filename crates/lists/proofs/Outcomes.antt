@@ -73,6 +73,7 @@ module _ (start : Result Chart Refusal) (calls room : List ℤ) where
       unfolding outcome_of
       with_all e ran = rw (listed, fits_room calls room listed enough, e) ran
 
+-- the tests of a list, in their order
 pub ruleset tests = (fits_room, without_calls, without_room, without_start, with_all)
 
 -- ---- the result of what was tried
@@ -120,7 +121,7 @@ module _ (calls room out : List ℤ) (r : Run) (floor : ℕ) where
         buffer = on.buffer;
       }
 
-  -- the start is what building or reading gave: a state that keeps the floor, or a refusal whose number is not 0
+  -- the start is what building or reading gave: a state that keeps the floor, or a refusal
   module _ (start : Outcome State) (p : Result Chart Refusal) (starts : (s : State) → start ≡ given s → Starts floor s)
       (is : IsHeld start p) where
     from_start : (a : Outcome State) → start ≡ a → (q : Result Chart Refusal) → p ≡ q → RunGivesOn (start_on q) calls room out r

@@ -1,14 +1,9 @@
--- Laws of the start of a list that is built of words, as a chart in hand. Building never refuses with 0 (`building_number`), so the
--- number 0 means that there is a start.
+-- Laws of the start of a list that is built of words: a chart in hand (`held_built`), or a refusal (`held_not_built`).
 use mathlib.Core.Path.{◌≡◌, sym, ap, ◌∙◌}
 use mathlib.Core.List.{List}
-use Prim.Native.Nat.{ℕ, ◌≤◌}
-use native.Mathlib.Omega.{arith}
+use Prim.Native.Nat.{ℕ}
 use lib.IntN.{ℤ}
-use Rattle.rules.specs.Outcome.{refused}
 use Rattle.rules.specs.Lists.{start_of_building, words_start}
-use Rattle.rules.proofs.Building.{building_ind}
-use Rattle.rules.proofs.Outcome.{given_not_refused}
 use Rattle.std.specs.Prelude.{Ok, Err}
 use Rattle.refusals.specs.declared.Refusal.{Refusal}
 use Rattle.chart.specs.declared.Called.{Called}
@@ -16,12 +11,6 @@ use Rattle.chart.specs.declared.Counts.{Counts}
 use Rattle.chart.specs.Chart.{build_says, chart_after, Builds}
 use Rattle.store.specs.HeldChart.{IsHeld}
 use Rattle.store.proofs.HeldChart.{held_begun, held_declined}
-
-pub building_number : (kind : ℕ) (words : List ℤ) (n : ℕ) → words_start kind words ≡ refused n → 1 ≤ n
-building_number kind words =
-    building_ind kind words (λ answer. (n : ℕ) → start_of_building answer ≡ refused n → 1 ≤ n)
-    (λ k some _ n e. let same : k ≡ n = cc in omega arith)
-    (λ b _ _ n e. given_not_refused e)
 
 module _ (kind : ℕ) (words : List ℤ) (r : Called Counts) (b : Builds kind words r) where
   pub held_built : {counts : Counts} → r.answer ≡ Ok counts → IsHeld (words_start kind words) (Ok r.chart)

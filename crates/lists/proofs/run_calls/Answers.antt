@@ -11,7 +11,8 @@ pub loop-i-init : goal.loop-i-init
 loop-i-init c = starts_at c.args.calls.now c.args.answers.now c.args.start c.requires.0 c.requires.1
 
 pub call_at-chart-requires : goal.call_at-chart-requires
-call_at-chart-requires c = call_fits c.loop-i.invariant (omega (arith, c.loop-i-test.true))
+call_at-chart-requires c =
+    let fits = call_fits c.loop-i.invariant (omega (arith, c.loop-i-test.true)) in (fits.0, omega (arith, fits.1))
 
 pub loop-i-preserved : goal.loop-i-preserved
 loop-i-preserved c =
