@@ -43,10 +43,9 @@ fn each_word(chart: Chart, words: &[i16]) {
 
 fn one_word(chart: Chart, word: i16) {
     say::label();
-    let answer = lines::against_lines(chart, word);
-    match answer {
-        lines::AgainstAnswer::Done(b) => beyond(b),
-        lines::AgainstAnswer::Refused(n) => say::refusal(n),
+    match lines::against_lines(chart, word) {
+        Ok(b) => beyond(b),
+        Err(refusal) => say::refusal(refusal),
     }
     say::end_of_line();
 }

@@ -1,7 +1,6 @@
 // Stored forms in lent buffers, with every byte said; charts written and read back; and the chart that a refused start gives.
 use crate::say;
 use chart::Chart;
-use store::{ReadAnswer, WriteAnswer};
 
 pub fn stored_forms(a: Chart) {
     say::heading();
@@ -64,10 +63,9 @@ fn longest_returned(a: Chart) {
 
 fn write_into(chart: Chart, lent: &mut [u8]) {
     say::label();
-    let answer = store::write(chart, lent);
-    match answer {
-        WriteAnswer::Done(size) => say::named(b"wrote ", size as u64),
-        WriteAnswer::Refused(n) => say::refusal(n),
+    match store::write(chart, lent) {
+        Ok(size) => say::named(b"wrote ", size as u64),
+        Err(refusal) => say::refusal(refusal),
     }
     say::text(b":");
     each_byte(lent);
@@ -91,10 +89,9 @@ fn read_back(chart: Chart) {
 fn read_from(chart: Chart, lent: &mut [u8]) {
     say::label();
     let r = store::write_and_read(chart, lent);
-    let answer = r.answer;
-    match answer {
-        ReadAnswer::Done => came_back(r.chart),
-        ReadAnswer::Refused(n) => say::refusal(n),
+    match r.answer {
+        Ok(()) => came_back(r.chart),
+        Err(refusal) => say::refusal(refusal),
     }
     say::end_of_line();
 }

@@ -29,9 +29,8 @@ pub fn charts_handed_in(a: Chart) {
 fn post(chart: Chart) {
     say::label();
     let r = chart.post(2, 10000, 10000, 0);
-    let answer = r.answer;
     let mut out = [0; 64];
-    let size = replies::put_post(&mut out, answer);
+    let size = replies::put_post(&mut out, r.answer);
     say::front(&out, size);
     say::status(r.chart);
     say::end_of_line();

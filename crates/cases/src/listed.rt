@@ -1,7 +1,7 @@
 // Whole lists of calls: what is answered, every number of the lent buffer, the chart after the list, and its lines.
 use crate::say;
 use chart::Chart;
-use lists::RunAnswer;
+use lists::ListRefusal;
 
 pub fn lists_run(a: Chart, words: &[i16]) {
     say::heading();
@@ -48,7 +48,8 @@ fn stored(a: Chart) {
     due.status = 1;
     due.open_verdict = 1;
     let mut form = [0; 50];
-    store::write(due, &mut form);
+    // If writing refused, the list would be refused too, and that would be said.
+    let _ = store::write(due, &mut form);
     from_bytes(&form, &[2, 2, 10301, 10000, 0, 3, 0, 0, 0, 0]);
     form[6] = 3;
     not_stored(&form);
@@ -68,7 +69,7 @@ fn stored_fourteen() {
     few.base[14] = 0;
     few.base_len = 14;
     let mut form = [0; 46];
-    store::write(few, &mut form);
+    let _ = store::write(few, &mut form);
     from_bytes(
         &form,
         &[4, 0, 0, 0, 0, 1, 1, 21000, 19000, 0, 4, 0, 0, 0, 0],
@@ -95,25 +96,25 @@ fn from_bytes(bytes: &[u8], calls: &[i64]) {
 
 fn run(r: lists::Run, answers: &[i64]) {
     say::label();
-    let answer = r.answer;
-    answered(answer);
+    answered(r.answer);
     say::text(b"; answers");
     each_number(answers);
     say::text(b"; ");
     say::numbers(r.chart);
-    let lines = r.lines;
     let mut out = [0; 256];
-    let size = replies::put_lines(&mut out, lines);
+    let size = replies::put_lines(&mut out, r.lines);
     say::front(&out, size);
     say::end_of_line();
 }
 
-fn answered(answer: RunAnswer) {
+fn answered(answer: Result<(), ListRefusal>) {
     match answer {
-        RunAnswer::Done => say::text(b"done"),
-        RunAnswer::StartRefused(n) => say::named(b"start refused ", n as u64),
-        RunAnswer::NotCalls => say::text(b"no list"),
-        RunAnswer::NoRoom => say::text(b"no room"),
+        Ok(()) => say::text(b"done"),
+        Err(ListRefusal::Start(refusal)) => {
+            say::named(b"start refused ", u64::from(refusal.number()));
+        }
+        Err(ListRefusal::NotCalls) => say::text(b"no list"),
+        Err(ListRefusal::NoRoom) => say::text(b"no room"),
     }
 }
 

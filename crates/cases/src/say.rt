@@ -1,5 +1,6 @@
 // Parts of a line, to standard output.
 use chart::Chart;
+use refusals::Refusal;
 
 // The descriptors of standard input and standard output.
 const INPUT: i32 = 0;
@@ -61,9 +62,9 @@ pub fn named(name: &[u8], n: u64) {
     front(&out, size);
 }
 
-pub fn refusal(n: u16) {
+pub fn refusal(refusal: Refusal) {
     let mut out = [0u8; 64];
-    let size = replies::put_refusal(&mut out, n);
+    let size = replies::put_refusal(&mut out, refusal);
     front(&out, size);
 }
 
