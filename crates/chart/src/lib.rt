@@ -279,10 +279,7 @@ impl Chart {
         let verdict = self.verdict_on(w);
         self.add_word(w);
         self.set_status(status_for(verdict), verdict);
-        Judged {
-            word: w,
-            verdict,
-        }
+        Judged { word: w, verdict }
     }
 
     // A word that passes replaces the last of the series, and the chart is free again. If the word fails, the series does not change, and a
@@ -298,10 +295,7 @@ impl Chart {
         } else {
             self.set_status(2, self.open_verdict);
         }
-        Retested {
-            word: w,
-            passed,
-        }
+        Retested { word: w, passed }
     }
 
     // ---- judging on a sound chart

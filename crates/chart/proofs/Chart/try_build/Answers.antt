@@ -30,7 +30,7 @@ unfolding answered_number
 returns-then-left-lt-BASE_WANTED c =
     let a = c.args in
     let rejected : IsRejection (rejection a.kind a.words.now) c.reject-r.result =
-        rejected_front a.kind a.words.now c.padded.result (length a.words.now) c.reject-r.result refl c.padded.ensures c.reject-r.ensures in
+    rejected_front a.kind a.words.now c.padded.result (length a.words.now) c.reject-r.result refl c.padded.ensures c.reject-r.ensures in
     rw c.requires (build_too_few (sym c.in_ok-may_build.ensures) rejected c.if-left-lt-BASE_WANTED.true)
 
 pub returns : goal.returns
@@ -38,5 +38,5 @@ unfolding answered_number
 returns c =
     let a = c.args in
     let rejected : IsRejection (rejection a.kind a.words.now) c.reject-r.result =
-        rejected_front a.kind a.words.now c.padded.result (length a.words.now) c.reject-r.result refl c.padded.ensures c.reject-r.ensures in
+    rejected_front a.kind a.words.now c.padded.result (length a.words.now) c.reject-r.result refl c.padded.ensures c.reject-r.ensures in
     build_accepted (sym c.in_ok-may_build.ensures) rejected c.if-left-lt-BASE_WANTED.false c.fresh_chart.ensures

@@ -32,7 +32,7 @@ returns-in_err-w c =
     let call : Call = post c.args.kind c.args.a c.args.b c.args.c in
     let same : c.from_residual-in_err-w.result ≡ Err c.in_err-w.field-0.0 = search rules in
     let formed : refused (refusal_number c.in_err-w.field-0.0) ≡ word_for self.kind c.args.kind c.args.a c.args.b c.args.c =
-        rw (to_z-of_z c.ranges.a, to_z-of_z c.ranges.b, to_z-of_z c.ranges.c) at c.in_err-w.ensures in
+    rw (to_z-of_z c.ranges.a, to_z-of_z c.ranges.b, to_z-of_z c.ranges.c) at c.in_err-w.ensures in
     rw same
     (reading_refused self sound call c.args.kind c.args.a c.args.b c.args.c (posting (state_of self)) refl
     (sym c.in_ok-may_post.ensures) _ formed)
@@ -51,7 +51,7 @@ returns c =
     let sound : Given self = state.given self (search rules) (search rules) c.requires in
     let call : Call = post c.args.kind c.args.a c.args.b c.args.c in
     let formed : given c.in_ok-w.w ≡ word_for self.kind c.args.kind c.args.a c.args.b c.args.c =
-        rw (to_z-of_z c.ranges.a, to_z-of_z c.ranges.b, to_z-of_z c.ranges.c) at c.in_ok-w.ensures in
+    rw (to_z-of_z c.ranges.a, to_z-of_z c.ranges.b, to_z-of_z c.ranges.c) at c.in_ok-w.ensures in
     word_read self sound call c.args.kind c.args.a c.args.b c.args.c (posting (state_of self)) refl (sym c.in_ok-may_post.ensures)
     c.in_ok-w.w formed
     (rw (to_z-of_z {w = w16} {z = c.in_ok-w.w} (search rules)) at c.post_word.ensures)
