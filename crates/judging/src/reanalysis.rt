@@ -12,7 +12,7 @@ pub fn passes(l: Limits, open_verdict: u16, series: &[i16], w: i16) -> bool
     requires { Bounded l.sums }
     ensures { result ≡ rules.passes (limits_say l) open_verdict series.now w }
 {
-    !beyond_control(l, w) & passes_verdict(l, open_verdict, series, w)
+    !beyond_control(l, w) && passes_verdict(l, open_verdict, series, w)
 }
 
 // What the open verdict asks besides the control limits.
@@ -21,16 +21,12 @@ fn passes_verdict(l: Limits, open_verdict: u16, series: &[i16], w: i16) -> bool
     requires { Bounded l.sums }
     ensures { result ≡ rules.passes_verdict (limits_say l) open_verdict series.now w }
 {
-    if open_verdict == 2 {
-        return passes_warning(l, w);
+    match open_verdict {
+        2 => passes_warning(l, w),
+        3 => passes_trend(l, series, w),
+        4 => passes_side(l, series, w),
+        _ => true,
     }
-    if open_verdict == 3 {
-        return passes_trend(l, series, w);
-    }
-    if open_verdict == 4 {
-        return passes_side(l, series, w);
-    }
-    true
 }
 
 fn passes_warning(l: Limits, w: i16) -> bool
@@ -46,7 +42,7 @@ fn passes_trend(l: Limits, series: &[i16], w: i16) -> bool
     requires { Bounded l.sums }
     ensures { result ≡ rules.passes_trend (limits_say l) series.now w }
 {
-    near_mean(l, w) | turns_back(series, w)
+    near_mean(l, w) || turns_back(series, w)
 }
 
 #[tactic(auto, unfolding(rules::specs::Reanalysis::passes_side))]
@@ -54,7 +50,7 @@ fn passes_side(l: Limits, series: &[i16], w: i16) -> bool
     requires { Bounded l.sums }
     ensures { result ≡ rules.passes_side (limits_say l) series.now w }
 {
-    near_mean(l, w) | !on_runs_side(l, series, w)
+    near_mean(l, w) || !on_runs_side(l, series, w)
 }
 
 // In a rising run the word is below the one before the last, in a falling run above it.

@@ -17,7 +17,7 @@ pub fn limits_hold(l: Limits, base: &[i16], series: &[i16], status: u16) -> bool
     ensures { result ≡ limits_hold (limits_say l) base.now series.now status }
 {
     let k = held_count(series.len(), status);
-    none_beyond_control(l, base) & none_beyond_control(l, &series[..k])
+    none_beyond_control(l, base) && none_beyond_control(l, &series[..k])
 }
 
 // How many of the m words of the series must not be beyond a control limit.
@@ -59,5 +59,5 @@ fn open_fits(l: Limits, series: &[i16], status: u16, open_verdict: u16) -> bool
     let is_status = (1..=2).contains(&status);
     let is_verdict = (1..=4).contains(&open_verdict);
     let same = open_verdict == verdict(l, series);
-    is_status & ((1 <= series.len()) & (is_verdict & same))
+    is_status && !series.is_empty() && is_verdict && same
 }

@@ -45,13 +45,11 @@ pub fn verdict(l: Limits, series: &[i16]) -> u16
 pub fn status_for(verdict: u16) -> u16
     ensures { result ≡ rules.status_for verdict }
 {
-    if verdict == 0 {
-        return 0;
+    match verdict {
+        0 => 0,
+        4 => 2,
+        _ => 1,
     }
-    if verdict == 4 {
-        return 2;
-    }
-    1
 }
 
 #[tactic(auto, unfolding(rules::specs::Verdict::control_test, rules::specs::LastWords::last_word))]
@@ -95,7 +93,7 @@ fn side_test(l: Limits, series: &[i16]) -> bool
     judges_side(l.kind) & (s.above | s.below)
 }
 
-// Verdict 4 is for kinds 2 and 3 only.
+// Verdict 4 is for kinds 2 and 3 only. `limits::has_lower` names the same kinds, but by another rule.
 #[tactic(auto, unfolding(rules::specs::Kind::judges_side))]
 fn judges_side(kind: u16) -> bool
     ensures { result ≡ judges_side kind }
