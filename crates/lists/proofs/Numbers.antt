@@ -1,4 +1,4 @@
--- Laws of answers as numbers: the three numbers of an answer (`three_are`), and these numbers put into a buffer.
+-- Laws of answers as numbers: whether a reanalysis passed (`passed_is`), and the three numbers of an answer put into a buffer (`put_three`).
 use mathlib.Core.Path.{◌≡◌, refl}
 use mathlib.Core.List.{[], ◌∷◌, List}
 use Prim.Native.Nat.{ℕ, ◌+◌, ◌-◌, ◌≤◌}
@@ -14,12 +14,7 @@ use Rattle.lists.specs.declared.answers.Said.{Said}
 use Rattle.lists.specs.Encoding.{answer_size, numbers_of, passed_number}
 use Rattle.lists.specs.Runs.{said_numbers}
 
--- the three numbers of what is said
-pub three_are : {number first second a b : ℤ} → first ≡ a → second ≡ b
-    → said_numbers (record { number = number; first = first; second = second }) ≡ number ∷ a ∷ b ∷ []
-unfolding said_numbers
-three_are {number} p q = λ i. number ∷ p i ∷ q i ∷ []
-
+-- whether a reanalysis passed, as a number
 pub passed_is : (passed : Bool) → pos (from_bool passed) ≡ passed_number passed
 unfolding passed_number
 passed_is true = refl
