@@ -27,8 +27,8 @@ use Rattle.chart.specs.Chart.{state_of}
 use Rattle.chart.specs.Soundness.{sound_chart}
 use Rattle.store.specs.HeldChart.{IsHeld}
 use Rattle.chart_c.specs.Lent.{answered_number, lent_after, flag}
-use Rattle.chart_c.specs.Plotting.{chart_in, doubles_of, doubles_into, drawn, Draws, is_word, flags_of, beyond_into, compared_into, compared}
-use Rattle.chart_c.specs.Plotting.{Compares}
+use Rattle.chart_c.specs.Plotting.{chart_in, doubles_of, doubles_into, drawn, Draws, is_word, flags_of, beyond_into}
+use Rattle.chart_c.specs.Plotting.{compared_into, compared, Compares}
 use Rattle.chart_c.proofs.Held.{Taken, from_bytes, held_taken, not_held, then_taken, same_state}
 
 -- ---- refused: the lent places are as they were

@@ -1,5 +1,5 @@
--- Laws of the chart that a call leaves in a lent buffer, and of the call itself: what is written (`written`, `not_written_lem`), what a refused
--- call leaves (`keeps_declined`, `call_refused`), and what is left by a call on the chart in a buffer (`call_leaves`).
+-- Laws of the chart that a call leaves in a lent buffer, and of the call itself: what is written (`written`, `not_written_lem`), what a
+-- refused call leaves (`keeps_declined`, `call_refused`), and what is left by a call on the chart in a buffer (`call_leaves`).
 use mathlib.Core.Path.{◌≡◌, refl, sym, ap, ◌∙◌}
 use mathlib.Core.Bool.{Bool, true, false}
 use mathlib.Core.List.{List}
@@ -11,6 +11,7 @@ use Rattle.rules.specs.Outcome.{Outcome, given, refused}
 use Rattle.rules.specs.Choice.{require, choose}
 use Rattle.rules.specs.Buffer.{at_front}
 use Rattle.rules.specs.State.{State}
+use Rattle.rules.specs.Soundness.{sound}
 use Rattle.rules.specs.StoredForm.{stored_form, form_fits, writing, buffer_after}
 use Rattle.rules.specs.Machine.{Call, Answer, Next, step, post, reanalysis}
 use Rattle.rules.specs.Machine as machine
@@ -78,7 +79,8 @@ module _ {A : Type 0} (c : Chart) (t : sound_chart c ≡ true) (before after : L
   pub not_written_lem : (r : Refusal) → Writes c before after (Err r)
       → KeepsChart (if_room before (state_of c) parts) before after size size (Err r)
   unfolding result_says answer_to_write buffer_after_write writing buffer_after if_room
-  not_written_lem r w = declined_by (state_of c) before after parts size r (form_fits (state_of c) before) (rw t at w.says) (rw t at w.buffer)
+  not_written_lem r w =
+      declined_by (state_of c) before after parts size r (form_fits (state_of c) before) (rw t at w.says) (rw t at w.buffer)
 
 -- ---- a chart that was kept, with the parts that its answer stands for
 
@@ -115,6 +117,18 @@ module _ {A : Type 0} (parts : A → Parts) (buffer : List ℕ) (s : State) wher
     kept_as o k Places p =
         record { chart = kept_leaves o k.chart; places = rw (ap (λ (x : Outcome A). parts_of parts x) k.says ∙ kept_parts o) at p }
 
+-- ---- the chart in the buffer is sound
+
+module _ (buffer : List ℕ) (size : ℕ) {c : Chart} (held : IsHeld (front_start buffer size) (Ok c)) where
+  front_taken : Taken (front_start buffer size) c
+  front_taken = held_taken (front_start buffer size) (from_front buffer size) held
+
+  pub front_sound : sound_chart c ≡ true
+  front_sound = front_taken.chart_sound
+
+  sound_state : sound (state_of c) ≡ true
+  sound_state = (sound_chart_facts c front_sound).state
+
 -- ---- the library makes a call with the kind of sixteen bits. It gives what the call with the kind that was passed gives
 
 module _ {c next : Chart} {said : Answer} where
@@ -126,27 +140,21 @@ module _ {c next : Chart} {said : Answer} where
         says = gives.says ∙ ap (λ (n : Next). choose (sound_chart c) n.answer (machine.refused 14)) same;
       }
 
-  module _ (t : sound_chart c ≡ true) (kind : ℕ) (x y z : ℤ) {k : ℕ} (passed : k ≡ kind_passed kind) where
+  module _ (buffer : List ℕ) (size : ℕ) (held : IsHeld (front_start buffer size) (Ok c))
+      (kind : ℕ) (x y z : ℤ) {k : ℕ} (passed : k ≡ kind_passed kind) where
     pub post_gives : Gives c (post k x y z) next said → Gives c (post kind x y z) next said
     post_gives gives =
         let s = state_of c in
         let kinds = ap (λ (n : ℕ). step s (post n x y z)) passed in
-        same_gives (kinds ∙ same_post s (sound_chart_facts c t).state kind x y z) gives
+        same_gives (kinds ∙ same_post s (sound_state buffer size held) kind x y z) gives
 
     pub reanalysis_gives : Gives c (reanalysis k x y z) next said → Gives c (reanalysis kind x y z) next said
     reanalysis_gives gives =
         let s = state_of c in
         let kinds = ap (λ (n : ℕ). step s (reanalysis n x y z)) passed in
-        same_gives (kinds ∙ same_reanalysis s (sound_chart_facts c t).state kind x y z) gives
+        same_gives (kinds ∙ same_reanalysis s (sound_state buffer size held) kind x y z) gives
 
 -- ---- a call on the chart in a buffer
-
-module _ (buffer : List ℕ) (size : ℕ) {c : Chart} (held : IsHeld (front_start buffer size) (Ok c)) where
-  front_taken : Taken (front_start buffer size) c
-  front_taken = held_taken (front_start buffer size) (from_front buffer size) held
-
-  pub front_sound : sound_chart c ≡ true
-  front_sound = front_taken.chart_sound
 
 module _ (buffer : List ℕ) (size : ℕ) (call : Call) where
   abbrev stepped : State → Outcome (Answered Parts)
@@ -159,7 +167,8 @@ module _ (buffer : List ℕ) (size : ℕ) (call : Call) where
   call_refused r is =
       leaves_declined (called buffer size call) buffer size (refusal_number r) (not_held (front_start buffer size) r is stepped)
 
-  module _ {c : Chart} (held : IsHeld (front_start buffer size) (Ok c)) {next : Chart} {said : Answer} (gives : Gives c call next said) where
+  module _ {c : Chart} (held : IsHeld (front_start buffer size) (Ok c)) {next : Chart} {said : Answer}
+      (gives : Gives c call next said) where
     taken : Taken (front_start buffer size) c
     taken = front_taken buffer size held
 

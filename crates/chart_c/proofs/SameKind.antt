@@ -92,4 +92,5 @@ module _ (s : State) (h : sound s ≡ true) (k : ℕ) (a b c : ℤ) where
 
   pub same_reanalysis : step s (reanalysis (kind_passed k) a b c) ≡ step s (reanalysis k a b c)
   unfolding step
-  same_reanalysis = ap (λ (f : Outcome ℤ). unless_refused s (refusal_for s (reanalysis k a b c)) (if_formed s f (reanalysing s))) same_reading
+  same_reanalysis =
+      ap (λ (f : Outcome ℤ). unless_refused s (refusal_for s (reanalysis k a b c)) (if_formed s f (reanalysing s))) same_reading

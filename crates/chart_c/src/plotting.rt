@@ -20,6 +20,7 @@ pub fn draw(chart: &[u8], buffer: &mut [f64], count: &mut usize) -> Result<(), R
     put_line_doubles(lines_of_sound(held), buffer, count)
 }
 
+#[tactic(auto, unfolding(crate::specs::Plotting::doubles_of, lines::specs::Lines::lines_say))]
 fn put_line_doubles(lines: Lines, buffer: &mut [f64], count: &mut usize) -> Result<(), Refusal>
     ensures { Draws (doubles_into buffer.old (doubles_of (lines_say lines)))
         buffer.old buffer.new count.old count.new (answered_number result) }

@@ -12,4 +12,6 @@ pub slice_bounds-put_string-end : goal.slice_bounds-put_string-end
 slice_bounds-put_string-end c = front_counted (shown _ version_short refl c.put_version-length.ensures)
 
 pub returns : goal.returns
-returns c = rw c.number_in.ensures (string_of_lem (shown _ version_short refl c.put_version-length.ensures) c.put_string.ensures)
+returns c =
+    rw c.number_in.ensures
+    (string_of_lem (shown _ version_short refl c.put_version-length.ensures) c.put_string.ensures)

@@ -18,8 +18,9 @@ pub correct_sound-requires : goal.correct_sound-requires
 correct_sound-requires c = front_sound _ _ c.in_ok-before.ensures
 
 pub keep-requires : goal.keep-requires
-keep-requires c =
-    λ answer done. next_sound _ _ _ c.in_ok-before.ensures c.correct_sound.ensures
+keep-requires c = λ answer done. next_sound _ _ _ c.in_ok-before.ensures c.correct_sound.ensures
 
 pub returns : goal.returns
-returns c = call_leaves _ _ _ c.in_ok-before.ensures c.correct_sound.ensures no_parts _ (correction_parts _) c.keep.ensures _ (number_kept _)
+returns c =
+    let gives = c.correct_sound.ensures in
+    call_leaves _ _ _ c.in_ok-before.ensures gives no_parts _ (correction_parts _) c.keep.ensures _ (number_kept _)

@@ -12,9 +12,6 @@ returns-in_err-answer g c =
     let same : c.from_residual.result ≡ Err c.in_err-answer.field-0.0 = search rules in
     rw (same, c.in_err-answer.was) (keeps_declined _ _ _ _ refl)
 
-pub write_sound-requires : goal.write_sound-requires
-write_sound-requires g c = c.requires c.in_ok-answer.answer c.in_ok-answer.was
-
 pub returns-in_err-n : goal.returns-in_err-n
 unfolding result_says
 returns-in_err-n g c =

@@ -20,18 +20,16 @@ post_sound-requires c = front_sound _ _ c.in_ok-before.ensures
 pub keep-requires : goal.keep-requires
 keep-requires c =
     let fits = c.ranges in
-    let held = front_sound _ _ c.in_ok-before.ensures in
     let made = rw (to_z-of_z fits.a, to_z-of_z fits.b, to_z-of_z fits.c) at c.post_sound.ensures in
-    let gives = post_gives held c.args.kind c.args.a c.args.b c.args.c c.kind_passed.ensures made in
+    let gives = post_gives _ _ c.in_ok-before.ensures c.args.kind c.args.a c.args.b c.args.c c.kind_passed.ensures made in
     λ answer done. next_sound _ _ _ c.in_ok-before.ensures gives
 
 pub returns-in_err-judged : goal.returns-in_err-judged
 unfolding answered_number result_says
 returns-in_err-judged c =
     let fits = c.ranges in
-    let held = front_sound _ _ c.in_ok-before.ensures in
     let made = rw (to_z-of_z fits.a, to_z-of_z fits.b, to_z-of_z fits.c) at c.post_sound.ensures in
-    let gives = post_gives held c.args.kind c.args.a c.args.b c.args.c c.kind_passed.ensures made in
+    let gives = post_gives _ _ c.in_ok-before.ensures c.args.kind c.args.a c.args.b c.args.c c.kind_passed.ensures made in
     let same : c.from_residual-in_err-judged.result ≡ Err c.in_err-judged.field-0.0 = search rules in
     rw same (call_leaves _ _ _ c.in_ok-before.ensures gives judged_parts _ (post_parts _) c.in_err-judged.ensures _ not_filled)
 
@@ -39,7 +37,6 @@ pub returns : goal.returns
 unfolding answered_number result_says
 returns c =
     let fits = c.ranges in
-    let held = front_sound _ _ c.in_ok-before.ensures in
     let made = rw (to_z-of_z fits.a, to_z-of_z fits.b, to_z-of_z fits.c) at c.post_sound.ensures in
-    let gives = post_gives held c.args.kind c.args.a c.args.b c.args.c c.kind_passed.ensures made in
+    let gives = post_gives _ _ c.in_ok-before.ensures c.args.kind c.args.a c.args.b c.args.c c.kind_passed.ensures made in
     call_leaves _ _ _ c.in_ok-before.ensures gives judged_parts _ (post_parts _) c.in_ok-judged.ensures _ (filled (search rules) refl)

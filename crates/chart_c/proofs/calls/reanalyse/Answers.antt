@@ -21,18 +21,16 @@ reanalyse_sound-requires c = front_sound _ _ c.in_ok-before.ensures
 pub keep-requires : goal.keep-requires
 keep-requires c =
     let fits = c.ranges in
-    let held = front_sound _ _ c.in_ok-before.ensures in
     let made = rw (to_z-of_z fits.a, to_z-of_z fits.b, to_z-of_z fits.c) at c.reanalyse_sound.ensures in
-    let gives = reanalysis_gives held c.args.kind c.args.a c.args.b c.args.c c.kind_passed.ensures made in
+    let gives = reanalysis_gives _ _ c.in_ok-before.ensures c.args.kind c.args.a c.args.b c.args.c c.kind_passed.ensures made in
     λ answer done. next_sound _ _ _ c.in_ok-before.ensures gives
 
 pub returns-in_err-retested : goal.returns-in_err-retested
 unfolding answered_number result_says
 returns-in_err-retested c =
     let fits = c.ranges in
-    let held = front_sound _ _ c.in_ok-before.ensures in
     let made = rw (to_z-of_z fits.a, to_z-of_z fits.b, to_z-of_z fits.c) at c.reanalyse_sound.ensures in
-    let gives = reanalysis_gives held c.args.kind c.args.a c.args.b c.args.c c.kind_passed.ensures made in
+    let gives = reanalysis_gives _ _ c.in_ok-before.ensures c.args.kind c.args.a c.args.b c.args.c c.kind_passed.ensures made in
     let same : c.from_residual-in_err-retested.result ≡ Err c.in_err-retested.field-0.0 = search rules in
     rw same (call_leaves _ _ _ c.in_ok-before.ensures gives retested_parts _ (reanalysis_parts _) c.in_err-retested.ensures _ not_filled)
 
@@ -40,7 +38,8 @@ pub returns : goal.returns
 unfolding answered_number result_says
 returns c =
     let fits = c.ranges in
-    let held = front_sound _ _ c.in_ok-before.ensures in
     let made = rw (to_z-of_z fits.a, to_z-of_z fits.b, to_z-of_z fits.c) at c.reanalyse_sound.ensures in
-    let gives = reanalysis_gives held c.args.kind c.args.a c.args.b c.args.c c.kind_passed.ensures made in
-    call_leaves _ _ _ c.in_ok-before.ensures gives retested_parts _ (reanalysis_parts _) c.in_ok-retested.ensures _ (filled (search rules) (c.from.ensures ∙ flag_byte _))
+    let gives = reanalysis_gives _ _ c.in_ok-before.ensures c.args.kind c.args.a c.args.b c.args.c c.kind_passed.ensures made in
+    let flags = c.from.ensures ∙ flag_byte _ in
+    call_leaves _ _ _ c.in_ok-before.ensures gives retested_parts _ (reanalysis_parts _) c.in_ok-retested.ensures _
+    (filled (search rules) flags)

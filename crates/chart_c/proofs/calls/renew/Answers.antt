@@ -17,16 +17,17 @@ pub renew_sound-requires : goal.renew_sound-requires
 renew_sound-requires c = front_sound _ _ c.in_ok-before.ensures
 
 pub keep-requires : goal.keep-requires
-keep-requires c =
-    λ answer done. next_sound _ _ _ c.in_ok-before.ensures c.renew_sound.ensures
+keep-requires c = λ answer done. next_sound _ _ _ c.in_ok-before.ensures c.renew_sound.ensures
 
 pub returns-in_err-counts : goal.returns-in_err-counts
 unfolding answered_number result_says
 returns-in_err-counts c =
     let same : c.from_residual-in_err-counts.result ≡ Err c.in_err-counts.field-0.0 = search rules in
-    rw same (call_leaves _ _ _ c.in_ok-before.ensures c.renew_sound.ensures counted_parts _ (renewal_parts _) c.in_err-counts.ensures _ not_filled)
+    let gives = c.renew_sound.ensures in
+    rw same (call_leaves _ _ _ c.in_ok-before.ensures gives counted_parts _ (renewal_parts _) c.in_err-counts.ensures _ not_filled)
 
 pub returns : goal.returns
 unfolding answered_number result_says
 returns c =
-    call_leaves _ _ _ c.in_ok-before.ensures c.renew_sound.ensures counted_parts _ (renewal_parts _) c.in_ok-counts.ensures _ (filled refl refl)
+    let gives = c.renew_sound.ensures in
+    call_leaves _ _ _ c.in_ok-before.ensures gives counted_parts _ (renewal_parts _) c.in_ok-counts.ensures _ (filled refl refl)

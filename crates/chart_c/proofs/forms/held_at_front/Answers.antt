@@ -1,9 +1,7 @@
 -- `chart_c::forms::held_at_front` meets its contract.
-use mathlib.Core.Path.{sym}
 use Prim.Native.Nat.{◌≤◌}
 use borrow.Author.Tests.{le-leb, lt-leb}
 use lib.ListN.{length}
-use lib.Seq.{length-take-le}
 use Rattle.refusals.specs.Refusal.{refusal_number, result_says}
 use Rattle.store.specs.HeldChart.{chart_of_start}
 use Rattle.chart_c.specs.Forms.{front_start}
@@ -12,12 +10,6 @@ use Rattle.chart_c.proofs.forms.held_at_front.Goals as goal
 pub returns-then-buffer-size : goal.returns-then-buffer-size
 unfolding front_start chart_of_start refusal_number result_says
 returns-then-buffer-size c = record { says = rw (lt-leb c.args.size (length c.args.buffer.now) c.if-buffer-size.true) }
-
-pub slice_bounds-held_in-end : goal.slice_bounds-held_in-end
-slice_bounds-held_in-end c =
-    let fits : c.args.size ≤ length c.args.buffer.now = c.if-buffer-size.false in
-    let a = c.args in
-    sym (length-take-le a.size a.buffer.now fits)
 
 pub returns : goal.returns
 unfolding front_start
