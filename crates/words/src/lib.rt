@@ -44,10 +44,11 @@ pub fn word(kind: u16, a: i64, b: i64, c: i64) -> Result<i16, Refusal>
 }
 
 // 1 duplicate, 2 check, 3 spike
+#[tactic(auto, unfolding(rules::specs::Kind::is_kind))]
 pub fn is_kind(kind: u16) -> bool
     ensures { result ≡ is_kind kind }
 {
-    (1 <= kind) & (kind <= 3)
+    (1..=3).contains(&kind)
 }
 
 // The word of a reading for a chart. A reading of another kind than the chart is refused with 4. Then 5, 6 and 7 apply.
@@ -79,20 +80,21 @@ pub fn from_reading(kind: u16, a: i64, b: i64, c: i64) -> Result<i16, Refusal>
 }
 
 // The range is that of the kind's words: 0..20000 for kind 1, −20000..20000 for the others.
+#[tactic(auto, using(rules::proofs::Kind::least_of_duplicates, rules::proofs::Kind::least_of_others), unfolding(rules::specs::Kind::in_range))]
 pub fn in_range(kind: u16, w: i64) -> bool
     ensures { result ≡ in_range kind w }
 {
     if kind == 1 {
-        return (0 <= w) & (w <= WORD_MOST);
+        return (0..=WORD_MOST).contains(&w);
     }
-    (WORD_LEAST <= w) & (w <= WORD_MOST)
+    (WORD_LEAST..=WORD_MOST).contains(&w)
 }
 
 // Every word is in the range of the kind exactly if the least and the greatest are.
 pub fn all_in_range(kind: u16, words: &[i16]) -> bool
     ensures { result ≡ all_in_range kind words.now }
 {
-    if words.len() == 0 {
+    if words.is_empty() {
         return true;
     }
     let e = extremes_of(words);
@@ -103,7 +105,7 @@ pub fn all_in_range(kind: u16, words: &[i16]) -> bool
 fn word_in_range(kind: u16, w: i16) -> bool
     ensures { result ≡ in_range kind w }
 {
-    in_range(kind, w as i64)
+    in_range(kind, i64::from(w))
 }
 
 // Kinds 1 and 2 ignore the third number, whatever it is.
@@ -113,10 +115,11 @@ fn are_readings(kind: u16, a: i64, b: i64, c: i64) -> bool
     is_reading(a) & (is_reading(b) & ((kind == 1) | (kind == 2) | is_reading(c)))
 }
 
+#[tactic(auto, unfolding(rules::specs::Word::is_reading))]
 fn is_reading(x: i64) -> bool
     ensures { result ≡ is_reading x }
 {
-    (0 <= x) & (x <= READING_MOST)
+    (0..=READING_MOST).contains(&x)
 }
 
 fn quotient_of(kind: u16, a: i64, b: i64, c: i64) -> Quotient
@@ -125,39 +128,32 @@ fn quotient_of(kind: u16, a: i64, b: i64, c: i64) -> Quotient
 {
     let x = reading(a);
     let y = reading(b);
-    if kind == 1 {
-        return Quotient {
+    match kind {
+        1 => Quotient {
             negative: false,
-            numerator: 20000 * distance_of(x, y),
+            numerator: 20000 * x.abs_diff(y),
             divisor: x + y,
-        };
-    }
-    if kind == 2 {
-        return Quotient {
+        },
+        2 => Quotient {
             negative: false,
             numerator: 10000 * x,
             divisor: y,
-        };
-    }
-    Quotient {
-        negative: x < y,
-        numerator: 10000 * distance_of(x, y),
-        divisor: reading(c),
+        },
+        _ => Quotient {
+            negative: x < y,
+            numerator: 10000 * x.abs_diff(y),
+            divisor: reading(c),
+        },
     }
 }
 
 // A reading is not negative.
+#[tactic(auto, using(crate::proofs::Readings::reading_natural))]
 fn reading(x: i64) -> u64
     requires { is_reading x ≡ true }
     ensures { ReadingIs x result }
 {
-    x as u64
-}
-
-fn distance_of(x: u64, y: u64) -> u64
-    ensures { result ≡ (x - y) + (y - x) }
-{
-    if x < y { y - x } else { x - y }
+    x.unsigned_abs()
 }
 
 // The nearest whole number, halves to the even one.
