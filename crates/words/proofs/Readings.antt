@@ -10,9 +10,14 @@ use borrow.Author.Tests.{leb-true, le-ltb, eq-eqb, ne_eqb}
 use Rattle.rules.specs.Kind.{ignores_third}
 use Rattle.rules.specs.Word.{reading_most, is_reading, are_readings, numerator, divisor}
 use Rattle.rules.proofs.Booleans.{both}
+use Rattle.rules.proofs.Kind.{least_of_duplicates, least_of_others}
 use Rattle.rules.proofs.Integers.{distance, of_pos, minus, times, magnitude, magnitude_times, is_below}
 use Rattle.words.specs.declared.Quotient.{Quotient}
 use Rattle.words.specs.Formed.{signed, ReadingIs, IsQuotient}
+
+-- ---- the least word of a kind
+
+pub ruleset least_words = (least_of_duplicates, least_of_others)
 
 -- ---- readings
 

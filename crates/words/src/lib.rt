@@ -80,7 +80,7 @@ pub fn from_reading(kind: u16, a: i64, b: i64, c: i64) -> Result<i16, Refusal>
 }
 
 // The range is that of the kind's words: 0..20000 for kind 1, −20000..20000 for the others.
-#[tactic(auto, using(rules::proofs::Kind::least_of_duplicates, rules::proofs::Kind::least_of_others), unfolding(rules::specs::Kind::in_range))]
+#[tactic(auto, using(crate::proofs::Readings::least_words), unfolding(rules::specs::Kind::in_range))]
 pub fn in_range(kind: u16, w: i64) -> bool
     ensures { result ≡ in_range kind w }
 {
