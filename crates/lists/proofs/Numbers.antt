@@ -1,4 +1,5 @@
--- Laws of answers as numbers: whether a reanalysis passed (`passed_is`), and the three numbers of an answer put into a buffer (`put_three`).
+-- Laws of answers as numbers: whether a reanalysis passed (`passed_is`), and the three numbers of an answer put into a buffer
+-- (`put_three`).
 use mathlib.Core.Path.{◌≡◌, refl}
 use mathlib.Core.List.{[], ◌∷◌, List}
 use Prim.Native.Nat.{ℕ, ◌+◌, ◌-◌, ◌≤◌}

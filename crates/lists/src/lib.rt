@@ -120,6 +120,7 @@ fn run_calls(start: Chart, calls: &[i64], answers: &mut [i64]) -> Chart
     ensures { RunsCalls start calls.now answers.old answers.new result }
 {
     let mut chart = start;
+    // By places: a proof does not know what `chunks_exact_mut` leaves in the buffer.
     for i in 0..calls.len() / CALL_SIZE {
         chart = call_at(chart, calls, i * CALL_SIZE, answers, i * ANSWER_SIZE);
     }
