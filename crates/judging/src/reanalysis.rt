@@ -1,7 +1,7 @@
 // Whether a reanalysis passes, by the open verdict: document 01, "Reanalysis".
 ghost use Rattle.std.specs.Prelude.{◌≡◌};
 ghost use Rattle.rules.specs.Reanalysis as rules;
-ghost use Rattle.limits.specs.Sums.{limits_say, Bounded};
+ghost use Rattle.limits.specs.Sums.{limits_say};
 
 use crate::verdict::{run_side, trend_of};
 use limits::{Limits, beyond_control, beyond_warning, near_mean, side_of_mean};
@@ -9,7 +9,6 @@ use limits::{Limits, beyond_control, beyond_warning, near_mean, side_of_mean};
 // The series is the one before the reanalysis. Its last word is the one that the reanalysis would replace.
 #[tactic(auto, unfolding(rules::specs::Reanalysis::passes))]
 pub fn passes(l: Limits, open_verdict: u16, series: &[i16], w: i16) -> bool
-    requires { Bounded l.sums }
     ensures { result ≡ rules.passes (limits_say l) open_verdict series.now w }
 {
     !beyond_control(l, w) && passes_verdict(l, open_verdict, series, w)
@@ -18,7 +17,6 @@ pub fn passes(l: Limits, open_verdict: u16, series: &[i16], w: i16) -> bool
 // What the open verdict asks besides the control limits.
 #[tactic(auto, unfolding(rules::specs::Reanalysis::passes_verdict))]
 fn passes_verdict(l: Limits, open_verdict: u16, series: &[i16], w: i16) -> bool
-    requires { Bounded l.sums }
     ensures { result ≡ rules.passes_verdict (limits_say l) open_verdict series.now w }
 {
     match open_verdict {
@@ -30,7 +28,6 @@ fn passes_verdict(l: Limits, open_verdict: u16, series: &[i16], w: i16) -> bool
 }
 
 fn passes_warning(l: Limits, w: i16) -> bool
-    requires { Bounded l.sums }
     ensures { result ≡ rules.passes_warning (limits_say l) w }
 {
     let b = beyond_warning(l, w);
@@ -39,7 +36,6 @@ fn passes_warning(l: Limits, w: i16) -> bool
 
 #[tactic(auto, unfolding(rules::specs::Reanalysis::passes_trend))]
 fn passes_trend(l: Limits, series: &[i16], w: i16) -> bool
-    requires { Bounded l.sums }
     ensures { result ≡ rules.passes_trend (limits_say l) series.now w }
 {
     near_mean(l, w) || turns_back(series, w)
@@ -47,7 +43,6 @@ fn passes_trend(l: Limits, series: &[i16], w: i16) -> bool
 
 #[tactic(auto, unfolding(rules::specs::Reanalysis::passes_side))]
 fn passes_side(l: Limits, series: &[i16], w: i16) -> bool
-    requires { Bounded l.sums }
     ensures { result ≡ rules.passes_side (limits_say l) series.now w }
 {
     near_mean(l, w) || !on_runs_side(l, series, w)
@@ -68,7 +63,6 @@ fn turns_back(series: &[i16], w: i16) -> bool
 
 #[tactic(auto, unfolding(rules::specs::Reanalysis::on_runs_side))]
 fn on_runs_side(l: Limits, series: &[i16], w: i16) -> bool
-    requires { Bounded l.sums }
     ensures { result ≡ rules.on_runs_side (limits_say l) series.now w }
 {
     let run = run_side(l, series);

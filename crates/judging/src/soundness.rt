@@ -4,7 +4,7 @@ ghost use Rattle.rules.specs.Choice.{choose};
 ghost use Rattle.rules.specs.AllOf.{none_of};
 ghost use Rattle.rules.specs.Limits.{beyond_control};
 ghost use Rattle.rules.specs.Soundness.{limits_hold, open_fits, status_fits};
-ghost use Rattle.limits.specs.Sums.{limits_say, Bounded};
+ghost use Rattle.limits.specs.Sums.{limits_say};
 
 use crate::verdict::verdict;
 use extremes::extremes_of;
@@ -13,7 +13,6 @@ use limits::{Limits, beyond_control};
 // No base word is beyond a control limit, and no series word, save the last while status is not 0.
 #[tactic(auto, using(crate::proofs::Held::held_words, crate::proofs::Held::held_few), unfolding(rules::specs::Soundness::limits_hold))]
 pub fn limits_hold(l: Limits, base: &[i16], series: &[i16], status: u16) -> bool
-    requires { Bounded l.sums }
     ensures { result ≡ limits_hold (limits_say l) base.now series.now status }
 {
     let k = held_count(series.len(), status);
@@ -29,7 +28,6 @@ fn held_count(m: usize, status: u16) -> usize
 
 // A word between two words within the limits is within them too. So the least and the greatest word decide.
 fn none_beyond_control(l: Limits, words: &[i16]) -> bool
-    requires { Bounded l.sums }
     ensures { result ≡ none_of (beyond_control (limits_say l)) words.now }
 {
     if words.is_empty() {
@@ -42,7 +40,6 @@ fn none_beyond_control(l: Limits, words: &[i16]) -> bool
 // Status 0 goes with verdict 0. Status 1 or 2 goes with the open verdict 1..4 that the last word of the series has.
 #[tactic(auto, unfolding(rules::specs::Soundness::status_fits))]
 pub fn status_fits(l: Limits, series: &[i16], status: u16, open_verdict: u16) -> bool
-    requires { Bounded l.sums }
     ensures { result ≡ status_fits (limits_say l) series.now status open_verdict }
 {
     if status == 0 {
@@ -53,7 +50,6 @@ pub fn status_fits(l: Limits, series: &[i16], status: u16, open_verdict: u16) ->
 
 #[tactic(auto, unfolding(rules::specs::Soundness::open_fits))]
 fn open_fits(l: Limits, series: &[i16], status: u16, open_verdict: u16) -> bool
-    requires { Bounded l.sums }
     ensures { result ≡ open_fits (limits_say l) series.now status open_verdict }
 {
     let is_status = (1..=2).contains(&status);

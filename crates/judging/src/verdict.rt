@@ -4,7 +4,7 @@
 ghost use Rattle.std.specs.Prelude.{◌≡◌};
 ghost use Rattle.rules.specs.Kind.{judges_side};
 ghost use Rattle.rules.specs.Verdict as rules;
-ghost use Rattle.limits.specs.Sums.{limits_say, Bounded};
+ghost use Rattle.limits.specs.Sums.{limits_say};
 ghost use Rattle.judging.specs.Runs.{AreOrders, AreSides, IsTrend, IsRunSide};
 
 use limits::{Limits, Side, beyond_control, beyond_warning, side_of_mean};
@@ -22,7 +22,6 @@ pub struct Trend {
 // The verdict on the series' last word: the first that applies, in the order 1, 2, 4, 3.
 #[tactic(auto, unfolding(rules::specs::Verdict::verdict, rules::specs::Verdict::first_verdict))]
 pub fn verdict(l: Limits, series: &[i16]) -> u16
-    requires { Bounded l.sums }
     ensures { result ≡ rules.verdict (limits_say l) series.now }
 {
     if control_test(l, series) {
@@ -54,7 +53,6 @@ pub fn status_for(verdict: u16) -> u16
 
 #[tactic(auto, unfolding(rules::specs::Verdict::control_test, rules::specs::LastWords::last_word))]
 fn control_test(l: Limits, series: &[i16]) -> bool
-    requires { Bounded l.sums }
     ensures { result ≡ rules.control_test (limits_say l) series.now }
 {
     let [.., last] = series else {
@@ -65,7 +63,6 @@ fn control_test(l: Limits, series: &[i16]) -> bool
 
 #[tactic(auto, unfolding(rules::specs::Verdict::warning_test))]
 fn warning_test(l: Limits, series: &[i16]) -> bool
-    requires { Bounded l.sums }
     ensures { result ≡ rules.warning_test (limits_say l) series.now }
 {
     let [.., before, last] = series else {
@@ -86,7 +83,6 @@ fn trend_test(series: &[i16]) -> bool
 
 #[tactic(auto, unfolding(rules::specs::Verdict::side_test))]
 fn side_test(l: Limits, series: &[i16]) -> bool
-    requires { Bounded l.sums }
     ensures { result ≡ rules.side_test (limits_say l) series.now }
 {
     let s = run_side(l, series);
@@ -115,7 +111,6 @@ pub fn trend_of(series: &[i16]) -> Trend
 }
 
 pub fn run_side(l: Limits, series: &[i16]) -> Side
-    requires { Bounded l.sums }
     ensures { IsRunSide (limits_say l) series.now result }
 {
     let Some(run) = series.last_chunk::<RUN>() else {
@@ -139,7 +134,6 @@ fn orders_of(words: &[i16]) -> Trend
 
 #[tactic(auto, using(crate::proofs::Judging::test_turn, crate::proofs::Judging::test_end))]
 fn sides_of(l: Limits, words: &[i16]) -> Side
-    requires { Bounded l.sums }
     ensures { AreSides (limits_say l) words.now result }
 {
     let mut above = true;

@@ -8,7 +8,8 @@ use mir.Syntax.{w16}
 use mir.Val.{SFits}
 use Rattle.rules.specs.Limits.{v_of, scaled_deviation}
 use Rattle.limits.specs.declared.Sums.{Sums}
-use Rattle.limits.specs.Sums.{sums_say, Bounded, Comparable}
+use Rattle.limits.specs.Bounded.{Bounded}
+use Rattle.limits.specs.Sums.{sums_say, Comparable}
 use Rattle.limits.proofs.Spread.{v_small}
 use Rattle.limits.proofs.Deviation.{deviation_small}
 

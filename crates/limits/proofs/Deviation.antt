@@ -11,7 +11,8 @@ use Rattle.rules.specs.Limits.{scaled_deviation}
 use Rattle.rules.proofs.Integers.{magnitude_plus, magnitude_negated, magnitude_times}
 use Rattle.rules.proofs.Held.{small_fits, Held, held, word_small}
 use Rattle.limits.specs.declared.Sums.{Sums}
-use Rattle.limits.specs.Sums.{sums_say, Bounded}
+use Rattle.limits.specs.Bounded.{Bounded}
+use Rattle.limits.specs.Sums.{sums_say}
 use Rattle.limits.proofs.Spread.{sum_small, sum_fits}
 
 module _ (s : Sums) (b : Bounded s) (w : ℤ) (h : SFits w16 w) where

@@ -10,7 +10,8 @@ use Rattle.rules.specs.Limits.{v_of}
 use Rattle.rules.proofs.Integers.{by_order, of_pos, minus, is_pos, square_magnitude}
 use Rattle.rules.proofs.Held.{small_fits}
 use Rattle.limits.specs.declared.Sums.{Sums}
-use Rattle.limits.specs.Sums.{sums_say, Bounded}
+use Rattle.limits.specs.Bounded.{Bounded}
+use Rattle.limits.specs.Sums.{sums_say}
 
 module _ (s : Sums) (b : Bounded s) where
   pub nq_small : s.n * s.q ≤ 2 ^ 40

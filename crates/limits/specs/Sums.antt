@@ -1,12 +1,13 @@
--- What the structs of `limits` say in the paper's terms, and bounds on the sums of sixteen-bit words.
+-- What the structs of `limits` say in the paper's terms, and what its functions require and give.
 use Rattle.std.specs.Prelude.{◌≡◌, List, ℕ, ◌+◌, ◌*◌, ◌-◌, ◌≤◌, ◌<◌, ◌^◌, length, ℤ, pos, nat_abs, ◌*ℤ◌}
 use Rattle.rules.specs.Sizes.{base_most}
 use Rattle.rules.specs.Limits as rules
 use Rattle.limits.specs.declared.Sums.{Sums}
-use Rattle.limits.specs.declared.Limits.{Limits}
+use Rattle.limits.specs.declared.bounded.Limits.{Limits}
 use Rattle.limits.specs.declared.BeyondLimits.{BeyondLimits}
 use Rattle.limits.specs.declared.Side.{Side}
 use Rattle.limits.specs.declared.Squares.{Squares}
+use Rattle.limits.specs.Bounded.{Bounded}
 
 -- n, T and Q
 abbrev pub sums_say : Sums → rules.Sums
@@ -15,13 +16,6 @@ sums_say s = record { n = s.n; t = s.t; q = pos s.q }
 -- a chart kind and the sums
 abbrev pub limits_say : Limits → rules.Limits
 limits_say l = record { kind = l.kind; sums = sums_say l.sums }
-
--- bounds on the sums of at most 32 words of sixteen bits. By the last bound V is not negative. The three bounds
--- together bound T
-pub record Bounded (s : Sums) : Type 0 where
-  pub few : s.n ≤ base_most
-  pub squares : s.q ≤ 2 ^ 30 * base_most
-  pub v : nat_abs s.t * nat_abs s.t ≤ s.n * s.q
 
 -- one more word can be added to the sums
 pub record CanAdd (s : Sums) : Type 0 where

@@ -6,13 +6,18 @@
 // 02, Q-5.
 #![tactic(auto)]
 
+mod bounded;
+
 ghost use Rattle.std.specs.Prelude.{◌≡◌, [], ◌∷◌, ◌≤◌, ◌<◌, length, pos, nat_abs};
 ghost use Rattle.rules.specs.Sizes.{base_most};
 ghost use Rattle.rules.specs.Kind.{has_lower};
 ghost use Rattle.rules.specs.Limits as rules;
 ghost use Rattle.rules.specs.Carried.{less_words};
-ghost use Rattle.limits.specs.Sums.{sums_say, limits_say, AreSums, AreLimits, Bounded, CanAdd, Removable, Comparable, AreSquares};
+ghost use Rattle.limits.specs.Bounded.{Bounded};
+ghost use Rattle.limits.specs.Sums.{sums_say, limits_say, AreSums, AreLimits, CanAdd, Removable, Comparable, AreSquares};
 ghost use Rattle.limits.specs.Sums.{IsBeyond, IsBeyondWarning, IsSide};
+
+pub use bounded::Limits;
 
 // Control limits are the mean ± 3S, warning limits the mean ± 2S.
 pub const CONTROL: u8 = 3;
@@ -51,13 +56,6 @@ struct Squares {
     limit: u64,
 }
 
-// What a word is judged by: a chart kind, and the sums of the words that the limits are worked out from.
-#[derive(Clone, Copy)]
-pub struct Limits {
-    pub kind: u16,
-    pub sums: Sums,
-}
-
 #[tactic(auto, using(crate::proofs::Summing::of_none, crate::proofs::Summing::can_add))]
 pub fn sums_of(words: &[i16]) -> Sums
     requires { length words.now ≤ base_most }
@@ -82,7 +80,6 @@ pub fn limits_of(kind: u16, words: &[i16]) -> Limits
 
 #[tactic(auto, unfolding(rules::specs::Limits::beyond_control, rules::specs::Limits::beyond))]
 pub fn beyond_control(l: Limits, w: i16) -> bool
-    requires { Bounded l.sums }
     ensures { result ≡ rules.beyond_control (limits_say l) w }
 {
     let b = beyond(CONTROL, l, w);
@@ -92,7 +89,6 @@ pub fn beyond_control(l: Limits, w: i16) -> bool
 // Whether a word is beyond the upper warning limit, and whether it is beyond the lower one.
 #[tactic(auto, unfolding(rules::specs::Limits::beyond_upper_warning, rules::specs::Limits::beyond_lower_warning))]
 pub fn beyond_warning(l: Limits, w: i16) -> BeyondLimits
-    requires { Bounded l.sums }
     ensures { IsBeyondWarning (limits_say l) w result }
 {
     beyond(WARNING, l, w)
@@ -101,7 +97,6 @@ pub fn beyond_warning(l: Limits, w: i16) -> BeyondLimits
 // |w − mean| < S
 #[tactic(auto, unfolding(rules::specs::Limits::near_mean))]
 pub fn near_mean(l: Limits, w: i16) -> bool
-    requires { Bounded l.sums }
     ensures { result ≡ rules.near_mean (sums_say l.sums) w }
 {
     let s = l.sums;
@@ -111,7 +106,6 @@ pub fn near_mean(l: Limits, w: i16) -> bool
 
 #[tactic(auto, unfolding(rules::specs::Limits::above_mean, rules::specs::Limits::below_mean))]
 pub fn side_of_mean(l: Limits, w: i16) -> Side
-    requires { Bounded l.sums }
     ensures { IsSide (sums_say l.sums) w result }
 {
     let s = l.sums;
@@ -124,7 +118,6 @@ pub fn side_of_mean(l: Limits, w: i16) -> Side
 
 // Compares a word with the limits at the multiple m. Kind 1 has no lower limit.
 pub fn beyond(m: u8, l: Limits, w: i16) -> BeyondLimits
-    requires { Bounded l.sums }
     ensures { IsBeyond m (limits_say l) w result }
 {
     let s = l.sums;

@@ -6,7 +6,7 @@ use Rattle.limits.proofs.Comparison.{comparable}
 use Rattle.limits.proofs.beyond.Goals as goal
 
 pub exceeds-far-requires : goal.exceeds-far-requires
-exceeds-far-requires c = comparable _ _ c.args.w _ c.ranges.m.fits c.requires c.ranges.w (grind (arith, to_z-of_z))
+exceeds-far-requires c = comparable _ _ c.args.w _ c.ranges.m.fits c.args.l.bounded c.ranges.w (grind (arith, to_z-of_z))
 
 pub returns : goal.returns
 unfolding beyond_upper beyond_lower above below above_mean below_mean
