@@ -15,7 +15,7 @@ use Rattle.rules.proofs.Rejection.{round_shorter, round_removes_nothing, rejecti
 use Rattle.rules.proofs.Rejection.{rejection_counts, rejection_rounds}
 use Rattle.rules.proofs.Carried.{hands_on_less, hands_on_own}
 use Rattle.limits.specs.declared.Sums.{Sums}
-use Rattle.limits.specs.Sums.{sums_say, limits_say, AreSums}
+use Rattle.limits.specs.Sums.{sums_say, AreSums}
 use Rattle.limits.proofs.Removing.{removable_own, own_less}
 use Rattle.chart.specs.declared.rejection.Standing.{Standing}
 use Rattle.chart.specs.declared.rejection.HandedOn.{HandedOn}
@@ -28,7 +28,7 @@ use Rattle.chart.proofs.Marks.{unmarked_by, marked_by}
 -- ---- a round, from its marks
 
 module _ (kind n : ℕ) (ws : List ℤ) (s : Sums) (marks : List Bool) (count : n ≡ length ws)
-    (e : marks ≡ pad false base_most (map (beyond_control (limits_say (record { kind = kind; sums = s }))) ws)) where
+    (e : marks ≡ pad false base_most (map (beyond_control (record { kind = kind; sums = sums_say s })) ws)) where
   abbrev test : ℤ → Bool
   test = beyond_given kind (given_says ws s)
 

@@ -5,8 +5,8 @@ use Rattle.rules.specs.Outcome.{Outcome, given, refused}
 use Rattle.rules.specs.Sizes.{base_most, series_most}
 use Rattle.rules.specs.State.{State, state, limits_for}
 use Rattle.rules.specs.Building.{BuiltState, building}
-use Rattle.limits.specs.declared.Limits.{Limits}
-use Rattle.limits.specs.Sums.{limits_say, Bounded}
+use Rattle.limits.specs.declared.bounded.Limits.{Limits}
+use Rattle.limits.specs.Sums.{limits_say}
 use Rattle.chart.specs.declared.Chart.{Chart}
 use Rattle.chart.specs.declared.Called.{Called}
 use Rattle.chart.specs.declared.Counts.{Counts}
@@ -65,7 +65,6 @@ zero_chart = fresh_chart 0 (replicate base_most (pos 0)) 0
 -- l are the limits that the state's words are judged by
 pub record LimitsFor (s : State) (l : Limits) : Type 0 where
   pub same : limits_say l ≡ limits_for s
-  pub bounded : Bounded l.sums
 
 -- a build that is refused
 abbrev pub not_built : Refusal → Called Counts

@@ -5,7 +5,8 @@ use Rattle.rules.specs.Choice.{choose}
 use Rattle.rules.specs.Rejection as rules
 use Rattle.rules.specs.Carried.{Given, removed_words, handed_on}
 use Rattle.limits.specs.declared.Sums.{Sums}
-use Rattle.limits.specs.Sums.{sums_say, AreSums, Bounded, Removable}
+use Rattle.limits.specs.Bounded.{Bounded}
+use Rattle.limits.specs.Sums.{sums_say, AreSums, Removable}
 use Rattle.chart.specs.declared.rejection.Standing.{Standing}
 use Rattle.chart.specs.declared.rejection.RejectionAnswer.{RejectionAnswer}
 use Rattle.chart.specs.declared.rejection.HandedOn.{HandedOn}

@@ -7,7 +7,7 @@ ghost use Rattle.rules.specs.Sizes.{base_most};
 ghost use Rattle.rules.specs.Limits.{beyond_control};
 ghost use Rattle.rules.specs.Rejection.{rejection};
 ghost use Rattle.rules.specs.Carried.{less_words};
-ghost use Rattle.limits.specs.Sums.{sums_say, limits_say, Bounded};
+ghost use Rattle.limits.specs.Sums.{sums_say, limits_say};
 ghost use Rattle.chart.specs.Pad.{pad};
 ghost use Rattle.chart.specs.Rejection.{without_marked, marked, HoldsWords, IsRejection, given_says, CanRemove};
 ghost use Rattle.chart.specs.Rejection.{WithOwnSums, CanTake, HandsOn};
@@ -85,7 +85,7 @@ pub fn round(kind: u16, words: [i16; Chart::BASE_MOST], n: usize, sums: Sums) ->
 
 // Which of the first n words are beyond the control limits.
 fn marks_beyond(l: Limits, words: [i16; Chart::BASE_MOST], n: usize) -> [bool; Chart::BASE_MOST]
-    requires { (n ≤ base_most) × Bounded l.sums }
+    requires { n ≤ base_most }
     ensures { result ≡ pad false base_most (map (beyond_control (limits_say l)) (take n words)) }
 {
     let mut marks = [false; Chart::BASE_MOST];

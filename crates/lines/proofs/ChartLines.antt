@@ -22,7 +22,7 @@ use Rattle.rules.proofs.Held.{word_small}
 use Rattle.rules.proofs.Limits.{v_natural}
 use Rattle.rules.proofs.Lines.{judged_by_lines, in_range_squares}
 use Rattle.rules.proofs.Soundness.{sound_facts}
-use Rattle.limits.specs.declared.Limits.{Limits}
+use Rattle.limits.specs.declared.bounded.Limits.{Limits}
 use Rattle.limits.specs.declared.BeyondLimits.{BeyondLimits}
 use Rattle.limits.specs.Sums.{sums_say, limits_say, IsBeyond}
 use Rattle.chart.specs.declared.Chart.{Chart}
@@ -107,7 +107,7 @@ module _ (c : Chart) (t : sound_chart c ≡ true) where
       let n : l.sums.n ≡ length s.base = ap (λ (x : limits.Limits). x.sums.n) are.same in
       let q : l.sums.q ≡ nat_abs (sum_of_squares s.base) = ap (λ (x : limits.Limits). nat_abs x.sums.q) are.same in
       record {
-        bounded = are.bounded;
+        bounded = l.bounded;
         two = omega (arith, facts.base_least_lem);
         squares = omega (arith, in_range_squares s.kind s.base facts.base_in_range);
       }

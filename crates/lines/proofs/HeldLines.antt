@@ -18,7 +18,9 @@ use Rattle.rules.proofs.SquareRoot.{root_is}
 use Rattle.rules.proofs.Soundness.{sound_facts}
 use Rattle.rules.proofs.Double.{parts_of_double}
 use Rattle.limits.specs.declared.Sums.{Sums}
-use Rattle.limits.specs.Sums.{sums_say, Bounded}
+use Rattle.limits.specs.declared.bounded.Limits.{Limits}
+use Rattle.limits.specs.Bounded.{Bounded}
+use Rattle.limits.specs.Sums.{sums_say}
 use Rattle.limits.proofs.Spread.{v_is}
 use Rattle.limits.proofs.Summing.{are_sums}
 use Rattle.chart.specs.declared.Chart.{Chart}
@@ -112,21 +114,24 @@ bounded_sums kind ws few range =
     (are_sums (base_sums ws) ws (sums_same ws) few (omega (arith, in_range_squares kind ws range))).bounded
 
 module _ (c : Chart) (t : sound_chart c ≡ true) where
-  base_limits : LimitsFor (state_of c) (record { kind = c.kind; sums = base_sums (state_of c).base })
-  unfolding limits_for limits_of state_of
-  base_limits =
+  base_bounded : Bounded (base_sums (state_of c).base)
+  base_bounded =
       let s = state_of c in
       let facts = sound_facts s (sound_chart_facts c t).state in
-      record {
-        same = λ i. record { kind = c.kind; sums = sums_same s.base i };
-        bounded = bounded_sums s.kind s.base facts.base_most_lem facts.base_in_range;
-      }
+      bounded_sums s.kind s.base facts.base_most_lem facts.base_in_range
+
+  abbrev base_limits : Limits
+  base_limits = record { kind = c.kind; sums = base_sums (state_of c).base; bounded = base_bounded }
+
+  limits_are : LimitsFor (state_of c) base_limits
+  unfolding limits_for limits_of state_of
+  limits_are = record { same = λ i. record { kind = c.kind; sums = sums_same (state_of c).base i } }
 
   pub lines_small : AreSmallLines (limits_for (state_of c)).sums
   unfolding limits_for limits_of
   lines_small =
       let ws = (state_of c).base in
-      rw (← sums_same ws) (small_lines (base_sums ws) (has_lines c t (record { kind = c.kind; sums = base_sums ws }) base_limits))
+      rw (← sums_same ws) (small_lines (base_sums ws) (has_lines c t base_limits limits_are))
 
   pub lines_held : AreHeldLines (limits_for (state_of c)).sums (lines_of (limits_for (state_of c)))
   lines_held = held_lines (limits_for (state_of c)) lines_small

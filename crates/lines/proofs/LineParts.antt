@@ -7,7 +7,8 @@ use Rattle.rules.specs.Lines.{quotient_down, quotient_up, greatest_deviation, up
 use Rattle.rules.proofs.Integers.{magnitude_plus, magnitude_negated, magnitude_times}
 use Rattle.rules.proofs.Held.{small_fits, Held, held}
 use Rattle.limits.specs.declared.Sums.{Sums}
-use Rattle.limits.specs.Sums.{sums_say, Bounded}
+use Rattle.limits.specs.Bounded.{Bounded}
+use Rattle.limits.specs.Sums.{sums_say}
 use Rattle.limits.proofs.Spread.{sum_small, sum_fits}
 use Rattle.lines.specs.Lines.{upper_line_by, lower_line_by, IsParts}
 use Rattle.lines.proofs.Quotients.{down_small, up_small}

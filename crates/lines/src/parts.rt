@@ -6,7 +6,8 @@ ghost use Rattle.rules.specs.Sizes.{line_parts};
 ghost use Rattle.rules.specs.Limits.{control_multiple};
 ghost use Rattle.rules.specs.SquareRoot.{square_root};
 ghost use Rattle.rules.specs.Lines as rules;
-ghost use Rattle.limits.specs.Sums.{Bounded, sums_say};
+ghost use Rattle.limits.specs.Bounded.{Bounded};
+ghost use Rattle.limits.specs.Sums.{sums_say};
 ghost use Rattle.lines.specs.Lines.{upper_line_by, lower_line_by, HasLines, IsParts};
 
 use chart::Chart;

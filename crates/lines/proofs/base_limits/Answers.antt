@@ -23,4 +23,4 @@ limits_of-requires c =
 
 pub returns : goal.returns
 unfolding limits_for state_of
-returns c = let called = c.limits_of.ensures in record { same = called.same; bounded = called.bounded }
+returns c = record { same = c.limits_of.ensures.same }

@@ -16,9 +16,6 @@ slice_bounds-passes-end c =
     let sound_self : Given c.args.self.now = given c.args.self.now (search rules) (search rules) c.requires in
     sym (series_count_lem c.args.self.now sound_self.within)
 
-pub passes-requires : goal.passes-requires
-passes-requires c = c.limits-l.ensures.bounded
-
 pub returns : goal.returns
 unfolding state_of
 returns c =

@@ -14,4 +14,4 @@ loop-i-init c = refl
 pub loop-i-preserved : goal.loop-i-preserved
 loop-i-preserved c =
     pad_next false base_most (beyond_control (limits_say c.args.l)) (take c.args.n c.args.words) c.loop-i.i (pos 0) (omega arith)
-    (omega (arith, length-take c.args.n c.args.words, c.requires.0)) c.loop-i.invariant (search rules)
+    (omega (arith, length-take c.args.n c.args.words, c.requires)) c.loop-i.invariant (search rules)

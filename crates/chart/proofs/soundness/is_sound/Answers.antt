@@ -6,12 +6,6 @@ use Rattle.rules.specs.Soundness.{sound}
 use Rattle.limits.specs.Sums.{limits_say}
 use Rattle.chart.proofs.soundness.is_sound.Goals as goal
 
-pub limits_hold-requires : goal.limits_hold-requires
-limits_hold-requires c = c.limits_of-l.ensures.bounded
-
-pub status_fits-requires : goal.status_fits-requires
-status_fits-requires c = c.limits_of-l.ensures.bounded
-
 pub returns : goal.returns
 unfolding sound limits_for
 returns c =
