@@ -8,7 +8,7 @@
 
 mod bounded;
 
-ghost use Rattle.std.specs.Prelude.{◌≡◌, [], ◌∷◌, ◌≤◌, ◌<◌, length, pos, nat_abs};
+ghost use Rattle.std.specs.Prelude.{◌≡◌, [], ◌∷◌, ◌≤◌, ◌<◌, length, pos};
 ghost use Rattle.rules.specs.Sizes.{base_most};
 ghost use Rattle.rules.specs.Kind.{has_lower};
 ghost use Rattle.rules.specs.Limits as rules;
@@ -217,11 +217,4 @@ fn square(w: i16) -> u64
 {
     let a = u64::from(w.unsigned_abs());
     a * a
-}
-
-// The absolute value.
-pub fn magnitude(z: i64) -> u64
-    ensures { result ≡ nat_abs z }
-{
-    z.unsigned_abs()
 }
