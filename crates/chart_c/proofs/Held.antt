@@ -10,6 +10,7 @@ use Rattle.rules.specs.Outcome.{Outcome, given, refused, and_then}
 use Rattle.rules.specs.Choice.{require}
 use Rattle.rules.specs.State.{State}
 use Rattle.rules.specs.Soundness.{sound}
+use Rattle.rules.specs.ReadForm.{reading}
 use Rattle.rules.specs.Lists.{bytes_start}
 use Rattle.rules.proofs.Outcome.{same_given, same_refused, given_not_refused}
 use Rattle.rules.proofs.Lists.{start_of-reading}
@@ -17,10 +18,12 @@ use Rattle.refusals.specs.Refusal.{refusal_number, result_says}
 use Rattle.refusals.specs.Refusal as refusal
 use Rattle.refusals.specs.declared.Refusal.{Refusal}
 use Rattle.chart.specs.declared.Chart.{Chart}
+use Rattle.chart.specs.declared.Called.{Called}
 use Rattle.chart.specs.Chart.{state_of, chart_of}
 use Rattle.chart.specs.Soundness.{sound_chart}
 use Rattle.chart.proofs.State.{state_of_chart}
 use Rattle.chart.proofs.Runs.{sound_chart_of}
+use Rattle.store.specs.Store.{read_says, IsRead}
 use Rattle.store.specs.HeldChart.{chart_of_start, IsHeld}
 use Rattle.chart_c.specs.Lent.{answered_number}
 use Rattle.chart_c.specs.Forms.{front_start}
@@ -72,13 +75,15 @@ unfolding chart_of_start result_says
 not_held (given s) r is next = given_not_refused (sym is.says)
 not_held (refused n) r is next = ap refused (sym (same_refused is.says))
 
--- its number is the one that is answered
-pub number_held : (a : Outcome State) (h : Result Chart Refusal) → IsHeld a h → refusal.answered_number h ≡ answered_number a
-unfolding chart_of_start result_says answered_number refusal.answered_number
-number_held (given s) (Ok c) is = refl
-number_held (given s) (Err r) is = given_not_refused (sym is.says)
-number_held (refused n) (Ok c) is = given_not_refused is.says
-number_held (refused n) (Err r) is = same_refused is.says
+-- the number that a read answers
+number_says : (c : Chart) (a : Result (Unit {0}) Refusal) → refusal.answered_number a ≡ answered_number (read_says c a)
+unfolding read_says answered_number refusal.answered_number
+number_says c (Ok _) = refl
+number_says c (Err r) = refl
+
+pub number_read : (bytes : List ℕ) (r : Called (Unit {0})) → IsRead (reading bytes) r
+    → refusal.answered_number r.answer ≡ answered_number (bytes_start bytes)
+number_read bytes r is = number_says r.chart r.answer ∙ ap answered_number is.says
 
 -- what follows a start
 pub then_taken : {B : Type 0} (a : Outcome State) (c : Chart) (t : Taken a c) (next : State → Outcome B)

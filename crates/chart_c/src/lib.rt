@@ -26,7 +26,7 @@ ghost use Rattle.chart_c.specs.Texts.{PutsText};
 use calls::{build, correct, form_word, post, reanalyse, renew};
 use plotting::{compare, draw};
 use refusals::Refusal;
-use store::held::held_in;
+use store::read;
 use strings::{TEXT_MOST, put_string};
 use texts::{put_refusal_meaning, put_verdict_meaning, put_version};
 
@@ -133,8 +133,8 @@ pub extern "C" fn control_chart_against_lines(chart: &[u8], word: i32, beyond: &
 pub extern "C" fn control_chart_check(chart: &[u8]) -> u16
     ensures { Checks chart.now result }
 {
-    let held = held_in(chart);
-    number_in(held)
+    let back = read(chart);
+    number_in(back.answer)
 }
 
 // What a number means, as text. The number has 32 bits, as a kind has, so that a larger number is not cut to that of a refusal.
