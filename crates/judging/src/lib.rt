@@ -5,3 +5,4 @@
 pub mod reanalysis;
 pub mod soundness;
 pub mod verdict;
+pub mod verdicts;

@@ -54,6 +54,6 @@ fn open_fits(l: Limits, series: &[i16], status: u16, open_verdict: u16) -> bool
 {
     let is_status = (1..=2).contains(&status);
     let is_verdict = (1..=4).contains(&open_verdict);
-    let same = open_verdict == verdict(l, series);
+    let same = open_verdict == verdict(l, series).number();
     is_status && !series.is_empty() && is_verdict && same
 }

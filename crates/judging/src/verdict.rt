@@ -5,8 +5,10 @@ ghost use Rattle.std.specs.Prelude.{◌≡◌};
 ghost use Rattle.rules.specs.Kind.{judges_side};
 ghost use Rattle.rules.specs.Verdict as rules;
 ghost use Rattle.limits.specs.Sums.{limits_say};
+ghost use Rattle.judging.specs.Verdicts.{verdict_number};
 ghost use Rattle.judging.specs.Runs.{AreOrders, AreSides, IsTrend, IsRunSide};
 
+use crate::verdicts::Verdict;
 use limits::{Limits, Side, beyond_control, beyond_warning, side_of_mean};
 
 // The number of words in a run: the turning point and six words after it.
@@ -20,34 +22,34 @@ pub struct Trend {
 }
 
 // The verdict on the series' last word: the first that applies, in the order 1, 2, 4, 3.
-#[tactic(auto, unfolding(rules::specs::Verdict::verdict, rules::specs::Verdict::first_verdict))]
-pub fn verdict(l: Limits, series: &[i16]) -> u16
-    ensures { result ≡ rules.verdict (limits_say l) series.now }
+#[tactic(auto, unfolding(rules::specs::Verdict::verdict, rules::specs::Verdict::first_verdict, crate::specs::Verdicts::verdict_number))]
+pub fn verdict(l: Limits, series: &[i16]) -> Verdict
+    ensures { verdict_number result ≡ rules.verdict (limits_say l) series.now }
 {
     if control_test(l, series) {
-        return 1;
+        return Verdict::BeyondControl;
     }
     if warning_test(l, series) {
-        return 2;
+        return Verdict::BeyondWarning;
     }
     if side_test(l, series) {
-        return 4;
+        return Verdict::OneSide;
     }
     if trend_test(series) {
-        return 3;
+        return Verdict::Trend;
     }
-    0
+    Verdict::Fits
 }
 
 // The status that a verdict sets.
-#[tactic(auto, unfolding(rules::specs::Verdict::status_for))]
-pub fn status_for(verdict: u16) -> u16
-    ensures { result ≡ rules.status_for verdict }
+#[tactic(auto, unfolding(rules::specs::Verdict::status_for, crate::specs::Verdicts::verdict_number))]
+pub fn status_for(verdict: Verdict) -> u16
+    ensures { result ≡ rules.status_for (verdict_number verdict) }
 {
     match verdict {
-        0 => 0,
-        4 => 2,
-        _ => 1,
+        Verdict::Fits => 0,
+        Verdict::BeyondControl | Verdict::BeyondWarning | Verdict::Trend => 1,
+        Verdict::OneSide => 2,
     }
 }
 
