@@ -9,3 +9,5 @@ pub mod ZeroChart
 mod Builds
 mod Calls
 pub mod Runs
+pub mod StaysSound
+pub mod Checked

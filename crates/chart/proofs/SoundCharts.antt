@@ -37,11 +37,11 @@ places_facts c t =
 pub places_few : (c : Chart) → places_sound c ≡ true → (c.base_len ≤ base_most) × (c.series_len ≤ series_most)
 places_few c t = let facts = places_facts c t in (facts.base_few, facts.series_few)
 
-pub record SoundChart (c : Chart) : Type 0 where
+pub record SoundFacts (c : Chart) : Type 0 where
   pub places : PlacesSound c
   pub state : sound (state_of c) ≡ true
 
-pub sound_chart_facts : (c : Chart) → sound_chart c ≡ true → SoundChart c
+pub sound_chart_facts : (c : Chart) → sound_chart c ≡ true → SoundFacts c
 unfolding sound_chart
 sound_chart_facts c t =
     let parts = both (places_sound c) (sound (state_of c)) t in

@@ -16,7 +16,7 @@ use Rattle.chart.specs.Chart.{state_of, chart_of, fresh_chart}
 use Rattle.chart.specs.declared.Chart.{Chart}
 use Rattle.chart.specs.Soundness.{unused_hold_zero, sound_chart}
 use Rattle.chart.proofs.Places.{take-pad, pad-take, pad_set, unused_after, take_fewer}
-use Rattle.chart.proofs.SoundCharts.{SoundChart, sound_chart_facts}
+use Rattle.chart.proofs.SoundCharts.{SoundFacts, sound_chart_facts}
 
 -- the chart of a state stands for that state
 pub state_of_chart : (s : State) → state_of (chart_of s) ≡ s
@@ -78,7 +78,7 @@ module _ (c : Chart) (h : Within c) where
 
 pub record Given (c : Chart) : Type 0 where
   pub is_sound : sound_chart c ≡ true
-  pub facts : SoundChart c
+  pub facts : SoundFacts c
   pub within : Within c
 
 pub given : (c : Chart) → length c.base ≡ base_most → length c.series ≡ series_most → sound_chart c ≡ true → Given c

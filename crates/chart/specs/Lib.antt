@@ -3,4 +3,5 @@ pub mod Rejection
 pub mod Tail
 pub mod Chart
 pub mod Soundness
+pub mod Checked
 pub mod Calls

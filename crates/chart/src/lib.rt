@@ -1,4 +1,5 @@
-// The chart of document 01: the type, and the calls that take a chart and hand it back. `building` makes one.
+// The chart of document 01: the type, and the calls that take a chart and hand it back. `building` makes one. `sound` has the calls on a
+// chart that is known to be sound.
 //
 // Every call first refuses, with 14, a chart that is not sound, whatever its lengths are. Then it refuses, in this order: post 8 (status
 // not 0), 9 (366 words in the series), 4 (a reading of another kind), 5, 6, 7; reanalyse 10 (status not 1), 4, 5, 6, 7; correct 11 (status
@@ -7,29 +8,20 @@
 
 mod building;
 pub mod rejection;
+pub mod sound;
 pub mod soundness;
 mod tail;
 
-ghost use Rattle.std.specs.Prelude.{◌≡◌, true, ◌++◌};
-ghost use Rattle.rules.specs.State.{limits_for, add_word, replace_last};
-ghost use Rattle.rules.specs.Verdict as verdicts;
-ghost use Rattle.rules.specs.Reanalysis as reanalyses;
+ghost use Rattle.std.specs.Prelude.{◌≡◌};
+ghost use Rattle.rules.specs.State.{add_word, replace_last};
 ghost use Rattle.rules.specs.Machine as machine;
-ghost use Rattle.rules.specs.Machine.{judged, reanalysed};
-ghost use Rattle.refusals.specs.Refusal.{answered_number};
-ghost use Rattle.chart.specs.Chart.{state_of, chart_of, with_status, zero_chart, fresh_chart, LimitsFor};
-ghost use Rattle.chart.specs.Rejection.{IsRejection};
-ghost use Rattle.chart.specs.Tail.{tail_rejection};
-ghost use Rattle.chart.specs.Soundness.{sound_chart, HasRoom, HasLast};
-ghost use Rattle.chart.specs.Calls.{Gives, Does, post_says, reanalysis_says, correction_says, renewal_says};
+ghost use Rattle.chart.specs.Chart.{state_of, chart_of, with_status, zero_chart, fresh_chart};
+ghost use Rattle.chart.specs.Soundness.{HasRoom, HasLast};
+ghost use Rattle.chart.specs.Checked.{chart_says, checked_chart};
+ghost use Rattle.chart.specs.Calls.{Gives, post_says, reanalysis_says, correction_says, renewal_says};
 
-use judging::reanalysis::passes;
-use judging::verdict::{status_for, verdict};
-use limits::{Limits, limits_of};
 use refusals::Refusal;
-use rejection::RejectionAnswer;
-use tail::reject_tail;
-use words::word_for;
+use sound::SoundChart;
 
 #[derive(Clone, Copy)]
 pub struct Chart {
@@ -88,249 +80,75 @@ impl Chart {
     pub fn post(mut self, kind: u16, a: i64, b: i64, c: i64) -> Called<Judged>
         ensures { Gives self (machine.post kind a b c) result.chart (post_says result.answer) }
     {
-        if !self.sound() {
+        let Ok(mut sound) = self.checked() else {
             return Called {
                 chart: self,
                 answer: Err(Refusal::NotSound),
             };
+        };
+        let answer = sound.post(kind, a, b, c);
+        Called {
+            chart: sound.chart,
+            answer,
         }
-        self.post_sound(kind, a, b, c)
     }
 
     pub fn reanalyse(mut self, kind: u16, a: i64, b: i64, c: i64) -> Called<Retested>
         ensures { Gives self (machine.reanalysis kind a b c) result.chart (reanalysis_says result.answer) }
     {
-        if !self.sound() {
+        let Ok(mut sound) = self.checked() else {
             return Called {
                 chart: self,
                 answer: Err(Refusal::NotSound),
             };
+        };
+        let answer = sound.reanalyse(kind, a, b, c);
+        Called {
+            chart: sound.chart,
+            answer,
         }
-        self.reanalyse_sound(kind, a, b, c)
     }
 
     pub fn correct(mut self) -> Called<()>
         ensures { Gives self machine.correction result.chart (correction_says result.answer) }
     {
-        if !self.sound() {
+        let Ok(mut sound) = self.checked() else {
             return Called {
                 chart: self,
                 answer: Err(Refusal::NotSound),
             };
+        };
+        let answer = sound.correct();
+        Called {
+            chart: sound.chart,
+            answer,
         }
-        self.correct_sound()
     }
 
     pub fn renew(mut self) -> Called<Counts>
         ensures { Gives self machine.renewal result.chart (renewal_says result.answer) }
     {
-        if !self.sound() {
+        let Ok(mut sound) = self.checked() else {
             return Called {
                 chart: self,
                 answer: Err(Refusal::NotSound),
             };
-        }
-        self.renew_sound()
-    }
-
-    // ---- the calls on a chart that is known to be sound, for example one just read
-
-    pub fn post_sound(mut self, kind: u16, a: i64, b: i64, c: i64) -> Called<Judged>
-        requires { sound_chart self ≡ true }
-        ensures { Gives self (machine.post kind a b c) result.chart (post_says result.answer) }
-    {
-        let answer = self.try_post(kind, a, b, c);
+        };
+        let answer = sound.renew();
         Called {
-            chart: self,
+            chart: sound.chart,
             answer,
         }
     }
 
-    pub fn reanalyse_sound(mut self, kind: u16, a: i64, b: i64, c: i64) -> Called<Retested>
-        requires { sound_chart self ≡ true }
-        ensures { Gives self (machine.reanalysis kind a b c) result.chart (reanalysis_says result.answer) }
+    // The same chart as one that is known to be sound. Refuses, with 14, a chart that is not.
+    pub fn checked(self) -> Result<SoundChart, Refusal>
+        ensures { chart_says result ≡ checked_chart self }
     {
-        let answer = self.try_reanalyse(kind, a, b, c);
-        Called {
-            chart: self,
-            answer,
+        if !self.sound() {
+            return Err(Refusal::NotSound);
         }
-    }
-
-    pub fn correct_sound(mut self) -> Called<()>
-        requires { sound_chart self ≡ true }
-        ensures { Gives self machine.correction result.chart (correction_says result.answer) }
-    {
-        let answer = self.try_correct();
-        Called {
-            chart: self,
-            answer,
-        }
-    }
-
-    pub fn renew_sound(mut self) -> Called<Counts>
-        requires { sound_chart self ≡ true }
-        ensures { Gives self machine.renewal result.chart (renewal_says result.answer) }
-    {
-        let answer = self.try_renew();
-        Called {
-            chart: self,
-            answer,
-        }
-    }
-
-    // ---- the same in place. A refusal leaves the chart as it was
-
-    fn try_post(&mut self, kind: u16, a: i64, b: i64, c: i64) -> Result<Judged, Refusal>
-        requires { sound_chart self.old ≡ true }
-        ensures { Gives self.old (machine.post kind a b c) self.new (post_says result) }
-    {
-        self.may_post()?;
-        let w = word_for(self.kind, kind, a, b, c)?;
-        Ok(self.post_word(w))
-    }
-
-    fn try_reanalyse(&mut self, kind: u16, a: i64, b: i64, c: i64) -> Result<Retested, Refusal>
-        requires { sound_chart self.old ≡ true }
-        ensures { Gives self.old (machine.reanalysis kind a b c) self.new (reanalysis_says result) }
-    {
-        self.may_reanalyse()?;
-        let w = word_for(self.kind, kind, a, b, c)?;
-        Ok(self.reanalyse_word(w))
-    }
-
-    // After a correction a reanalysis is due again.
-    fn try_correct(&mut self) -> Result<(), Refusal>
-        requires { sound_chart self.old ≡ true }
-        ensures { Gives self.old machine.correction self.new (correction_says result) }
-    {
-        if self.status != 2 {
-            return Err(Refusal::NoCorrectionDue);
-        }
-        self.set_status(1, self.open_verdict);
-        Ok(())
-    }
-
-    // Rejection from the shortest tail of base and series that will do gives the new base.
-    fn try_renew(&mut self) -> Result<Counts, Refusal>
-        requires { sound_chart self.old ≡ true }
-        ensures { Gives self.old machine.renewal self.new (renewal_says result) }
-    {
-        self.may_renew()?;
-        let r = self.renewal_rejection();
-        let left = r.left;
-        if left.n < Chart::BASE_WANTED {
-            return Err(Refusal::TooFewStand);
-        }
-        *self = fresh_chart(self.kind, left.words, left.n);
-        Ok(Counts {
-            rounds: r.rounds,
-            removed: r.removed,
-        })
-    }
-
-    // ---- refusals of a sound chart that come first, before the call's reading and before rejection
-
-    fn may_post(&self) -> Result<(), Refusal>
-        requires { sound_chart self.now ≡ true }
-        ensures { answered_number result ≡ machine.post_refusal (state_of self.now) }
-    {
-        if self.status != 0 {
-            return Err(Refusal::NotFree);
-        }
-        let room = self.series_len < Chart::SERIES_MOST;
-        if !room {
-            return Err(Refusal::SeriesFull);
-        }
-        Ok(())
-    }
-
-    fn may_reanalyse(&self) -> Result<(), Refusal>
-        requires { sound_chart self.now ≡ true }
-        ensures { answered_number result ≡ machine.reanalysis_refusal (state_of self.now) }
-    {
-        if self.status != 1 {
-            return Err(Refusal::NoReanalysisDue);
-        }
-        Ok(())
-    }
-
-    fn may_renew(&self) -> Result<(), Refusal>
-        requires { sound_chart self.now ≡ true }
-        ensures { answered_number result ≡ machine.renewal_refusal (state_of self.now) }
-    {
-        if self.status != 0 {
-            return Err(Refusal::NotFree);
-        }
-        let enough = Chart::BASE_WANTED <= self.base_len + self.series_len;
-        if !enough {
-            return Err(Refusal::TooFewWords);
-        }
-        Ok(())
-    }
-
-    // ---- what a post and a reanalysis do with the word of their reading
-
-    // Judges the word, adds it to the series, and answers word and verdict.
-    fn post_word(&mut self, w: i16) -> Judged
-        requires { HasRoom self.old }
-        ensures { Does (machine.posting (state_of self.old) w) self.new (judged result.word result.verdict) }
-    {
-        let verdict = self.verdict_on(w);
-        self.add_word(w);
-        self.set_status(status_for(verdict), verdict);
-        Judged { word: w, verdict }
-    }
-
-    // A word that passes replaces the last of the series, and the chart is free again. If the word fails, the series does not change, and a
-    // correction is due.
-    fn reanalyse_word(&mut self, w: i16) -> Retested
-        requires { HasLast self.old }
-        ensures { Does (machine.reanalysing (state_of self.old) w) self.new (reanalysed result.word result.passed) }
-    {
-        let passed = self.passes_for_last(w);
-        if passed {
-            self.replace_last(w);
-            self.set_status(0, 0);
-        } else {
-            self.set_status(2, self.open_verdict);
-        }
-        Retested { word: w, passed }
-    }
-
-    // ---- judging on a sound chart
-
-    // The verdict that posting w would give.
-    fn verdict_on(&self, w: i16) -> u16
-        requires { HasRoom self.now }
-        ensures { result ≡ verdicts.verdict (limits_for (state_of self.now)) (add_word (state_of self.now) w).series }
-    {
-        let l = self.limits();
-        let mut series = self.series;
-        let m = self.series_len;
-        series[m] = w;
-        let after = m + 1;
-        verdict(l, &series[..after])
-    }
-
-    // Whether w passes in place of the last word of the series.
-    fn passes_for_last(&self, w: i16) -> bool
-        requires { sound_chart self.now ≡ true }
-        ensures { result ≡ reanalyses.passes (limits_for (state_of self.now)) self.now.open_verdict (state_of self.now).series w }
-    {
-        let l = self.limits();
-        let series = self.series;
-        let m = self.series_len;
-        passes(l, self.open_verdict, &series[..m], w)
-    }
-
-    fn limits(&self) -> Limits
-        requires { sound_chart self.now ≡ true }
-        ensures { LimitsFor (state_of self.now) result }
-    {
-        let base = self.base;
-        let n = self.base_len;
-        limits_of(self.kind, &base[..n])
+        Ok(SoundChart { chart: self })
     }
 
     // ---- what a call changes
@@ -357,18 +175,6 @@ impl Chart {
     {
         self.status = status;
         self.open_verdict = open_verdict;
-    }
-
-    // What rejection leaves of the shortest tail of base and series that will do.
-    fn renewal_rejection(&self) -> RejectionAnswer
-        requires { sound_chart self.now ≡ true }
-        ensures { IsRejection (tail_rejection self.now.kind ((state_of self.now).base ++ (state_of self.now).series)) result }
-    {
-        let base = self.base;
-        let n = self.base_len;
-        let series = self.series;
-        let m = self.series_len;
-        reject_tail(self.kind, &base[..n], &series[..m])
     }
 }
 

@@ -1,19 +1,16 @@
 -- `chart::Chart::post` meets its contract: 14 first, and then the call on a sound chart.
 use mir.Facts.{to_z-of_z}
-use Rattle.rules.proofs.Booleans.{answered_no, answered_yes}
 use Rattle.refusals.specs.Refusal.{refusal_number}
 use Rattle.chart.specs.Calls.{post_says}
 use Rattle.chart.proofs.Calls.{not_sound}
+use Rattle.chart.proofs.Checked.{not_checked, same_checked}
 use Rattle.chart.proofs.Chart.post.Goals as goal
 
-pub returns-then-not-sound : goal.returns-then-not-sound
+pub returns-in_default : goal.returns-in_default
 unfolding post_says refusal_number
-returns-then-not-sound c = not_sound (answered_no c.sound.ensures c.if-not-sound.true)
-
-pub post_sound-requires : goal.post_sound-requires
-post_sound-requires c = answered_yes c.sound.ensures c.if-not-sound.false
+returns-in_default c = not_sound (not_checked _ _ c.in_default.ensures)
 
 pub returns : goal.returns
 returns c =
     let fits = c.ranges in
-    rw (to_z-of_z fits.a, to_z-of_z fits.b, to_z-of_z fits.c) at c.post_sound.ensures
+    rw (same_checked _ _ c.in-Ok.ensures, to_z-of_z fits.a, to_z-of_z fits.b, to_z-of_z fits.c) at c.post-answer.ensures

@@ -1,13 +1,13 @@
 -- `chart::Chart::renew` meets its contract: 14 first, and then the call on a sound chart.
-use Rattle.rules.proofs.Booleans.{answered_no, answered_yes}
 use Rattle.refusals.specs.Refusal.{refusal_number}
 use Rattle.chart.specs.Calls.{renewal_says}
 use Rattle.chart.proofs.Calls.{not_sound}
+use Rattle.chart.proofs.Checked.{not_checked, same_checked}
 use Rattle.chart.proofs.Chart.renew.Goals as goal
 
-pub returns-then-not-sound : goal.returns-then-not-sound
+pub returns-in_default : goal.returns-in_default
 unfolding renewal_says refusal_number
-returns-then-not-sound c = not_sound (answered_no c.sound.ensures c.if-not-sound.true)
+returns-in_default c = not_sound (not_checked _ _ c.in_default.ensures)
 
-pub renew_sound-requires : goal.renew_sound-requires
-renew_sound-requires c = answered_yes c.sound.ensures c.if-not-sound.false
+pub returns : goal.returns
+returns c = rw (same_checked _ _ c.in-Ok.ensures) at c.renew-answer.ensures
