@@ -4,6 +4,7 @@ use Rattle.rules.specs.Choice.{choose}
 use Rattle.rules.specs.Machine.{Call, Answer, Next, judged, reanalysed, corrected, renewed, refused, step}
 use Rattle.refusals.specs.Refusal.{refusal_number}
 use Rattle.refusals.specs.declared.Refusal.{Refusal}
+use Rattle.judging.specs.Verdicts.{verdict_number}
 use Rattle.chart.specs.declared.Chart.{Chart}
 use Rattle.chart.specs.declared.Judged.{Judged}
 use Rattle.chart.specs.declared.Retested.{Retested}
@@ -35,7 +36,7 @@ pub record Does (next : Next) (c : Chart) (answer : Answer) : Type 0 where
 -- ---- what the cases of each call's answer say
 
 unfoldable pub post_says : Result Judged Refusal → Answer
-post_says (Ok a) = judged a.word a.verdict
+post_says (Ok a) = judged a.word (verdict_number a.verdict)
 post_says (Err r) = refused (refusal_number r)
 
 unfoldable pub reanalysis_says : Result Retested Refusal → Answer

@@ -20,6 +20,7 @@ ghost use Rattle.chart.specs.Soundness.{HasRoom, HasLast};
 ghost use Rattle.chart.specs.Checked.{chart_says, checked_chart};
 ghost use Rattle.chart.specs.Calls.{Gives, post_says, reanalysis_says, correction_says, renewal_says};
 
+use judging::verdicts::Verdict;
 use refusals::Refusal;
 use sound::SoundChart;
 
@@ -52,7 +53,7 @@ pub struct Counts {
 #[derive(Clone, Copy)]
 pub struct Judged {
     pub word: i16,
-    pub verdict: u16,
+    pub verdict: Verdict,
 }
 
 // The answer of a reanalysis: its word, and whether it passed.

@@ -5,6 +5,7 @@ ghost use Rattle.rules.specs.Verdict as verdicts;
 ghost use Rattle.rules.specs.Reanalysis as reanalyses;
 ghost use Rattle.rules.specs.Machine as machine;
 ghost use Rattle.refusals.specs.Refusal.{answered_number};
+ghost use Rattle.judging.specs.Verdicts.{verdict_number};
 ghost use Rattle.chart.specs.Chart.{state_of, LimitsFor};
 ghost use Rattle.chart.specs.Rejection.{IsRejection};
 ghost use Rattle.chart.specs.Tail.{tail_rejection};
@@ -16,6 +17,7 @@ use crate::tail::reject_tail;
 use crate::{Chart, Counts, Judged, Retested, fresh_chart};
 use judging::reanalysis::passes;
 use judging::verdict::{status_for, verdict};
+use judging::verdicts::Verdict;
 use limits::{Limits, limits_of};
 use refusals::Refusal;
 use words::word_for;
@@ -35,7 +37,7 @@ impl SoundChart {
         let w = word_for(self.chart.kind, kind, a, b, c)?;
         let verdict = self.verdict_on(w);
         self.chart.add_word(w);
-        self.chart.set_status(status_for(verdict), verdict);
+        self.chart.set_status(status_for(verdict), verdict.number());
         Ok(Judged { word: w, verdict })
     }
 
@@ -121,12 +123,26 @@ impl SoundChart {
         Ok(())
     }
 
+    // ---- the words
+
+    pub fn base_words(&self) -> &[i16]
+        ensures { result.now ≡ (state_of self.now.chart).base }
+    {
+        &self.chart.base[..self.chart.base_len]
+    }
+
+    pub fn series_words(&self) -> &[i16]
+        ensures { result.now ≡ (state_of self.now.chart).series }
+    {
+        &self.chart.series[..self.chart.series_len]
+    }
+
     // ---- judging
 
     // The verdict that posting w would give.
-    fn verdict_on(&self, w: i16) -> u16
+    fn verdict_on(&self, w: i16) -> Verdict
         requires { HasRoom self.now.chart }
-        ensures { result ≡ verdicts.verdict (limits_for (state_of self.now.chart)) (add_word (state_of self.now.chart) w).series }
+        ensures { verdict_number result ≡ verdicts.verdict (limits_for (state_of self.now.chart)) (add_word (state_of self.now.chart) w).series }
     {
         let l = self.limits();
         let mut series = self.chart.series;
@@ -141,19 +157,19 @@ impl SoundChart {
         ensures { result ≡ reanalyses.passes (limits_for (state_of self.now.chart))
             self.now.chart.open_verdict (state_of self.now.chart).series w }
     {
-        let l = self.limits();
-        let series = self.chart.series;
-        let m = self.chart.series_len;
-        passes(l, self.chart.open_verdict, &series[..m], w)
+        passes(
+            self.limits(),
+            self.chart.open_verdict,
+            self.series_words(),
+            w,
+        )
     }
 
     // The limits that the base gives.
     pub fn limits(&self) -> Limits
         ensures { LimitsFor (state_of self.now.chart) result }
     {
-        let base = self.chart.base;
-        let n = self.chart.base_len;
-        limits_of(self.chart.kind, &base[..n])
+        limits_of(self.chart.kind, self.base_words())
     }
 
     // What rejection leaves of the shortest tail of base and series that will do.
@@ -161,10 +177,6 @@ impl SoundChart {
         ensures { IsRejection
             (tail_rejection self.now.chart.kind ((state_of self.now.chart).base ++ (state_of self.now.chart).series)) result }
     {
-        let base = self.chart.base;
-        let n = self.chart.base_len;
-        let series = self.chart.series;
-        let m = self.chart.series_len;
-        reject_tail(self.chart.kind, &base[..n], &series[..m])
+        reject_tail(self.chart.kind, self.base_words(), self.series_words())
     }
 }

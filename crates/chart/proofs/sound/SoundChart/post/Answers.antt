@@ -11,6 +11,7 @@ use Rattle.rules.specs.Outcome.{given, refused}
 use Rattle.rules.specs.Machine.{Call, post, posting, word_for, judged}
 use Rattle.rules.specs.State.{limits_for, add_word}
 use Rattle.rules.specs.Verdict.{verdict}
+use Rattle.judging.specs.Verdicts.{verdict_number}
 use Rattle.chart.specs.Chart.{state_of, chart_of}
 use Rattle.chart.specs.Calls.{Gives, post_says}
 use Rattle.chart.proofs.State as state
@@ -57,7 +58,7 @@ add_word-requires c =
 
 -- the word is added with its verdict
 gives : (c : goal.After-set_status) → Gives c.args.self.now.chart (post c.args.kind c.args.a c.args.b c.args.c) c.set_status.new.self
-    (judged c.in_ok-w.w c.verdict_on-verdict.result)
+    (judged c.in_ok-w.w (verdict_number c.verdict_on-verdict.result))
 unfolding answered_number result_says state_of
 gives c =
     let self = c.args.self.now.chart in
@@ -70,8 +71,8 @@ gives c =
     let v = c.verdict_on-verdict.ensures ∙ ap (λ (x : ℤ). verdict (limits_for s) (add_word s x).series) word in
     let chart = c.add_word.ensures ∙ ap (λ (x : ℤ). chart_of (add_word s x)) word in
     let does =
-    posted s c.in_ok-w.w c.verdict_on-verdict.result c.status_for.result c.add_word.new.self
-    c.set_status.new.self v chart c.status_for.ensures c.set_status.ensures in
+    posted s c.in_ok-w.w (verdict_number c.verdict_on-verdict.result) c.status_for.result c.add_word.new.self
+    c.set_status.new.self v chart c.status_for.ensures (rw c.number.ensures at c.set_status.ensures) in
     word_read self sound call c.args.kind c.args.a c.args.b c.args.c (posting s) refl (sym c.in_ok-may_post.ensures)
     c.in_ok-w.w formed does
 

@@ -35,9 +35,6 @@ slice_bounds-verdict-end c =
     (arith, same, sound_self.within.series_places, c.requires.room) in
     sym (length-take-le _ places (omega (arith, room)))
 
-pub verdict-requires : goal.verdict-requires
-verdict-requires c = c.limits-l.ensures.bounded
-
 pub returns : goal.returns
 unfolding add_word state_of
 returns c =
