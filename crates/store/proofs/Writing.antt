@@ -12,7 +12,7 @@ use mir.Syntax.{w16}
 use mir.Val.{SFits, to_z, of_z}
 use mir.ValLaws.{to_z-of_z}
 use borrow.Author.Tests.{le-leb, lt-leb}
-use Rattle.rules.specs.Outcome.{given}
+use Rattle.rules.specs.Outcome.{given, refused}
 use Rattle.rules.specs.State.{State}
 use Rattle.rules.specs.Soundness.{sound}
 use Rattle.rules.specs.Sizes.{base_most, series_most}
@@ -26,12 +26,15 @@ use Rattle.rules.proofs.Soundness.{sound_facts}
 use Rattle.chart.specs.declared.Chart.{Chart}
 use Rattle.chart.specs.Chart.{state_of}
 use Rattle.chart.specs.Soundness.{sound_chart}
+use Rattle.chart.specs.Checked.{chart_says, checked_chart}
+use Rattle.chart.proofs.Checked.{not_checked, checked_number}
 use Rattle.chart.proofs.State as state
 use Rattle.chart.proofs.State.{Given, base_count_lem, series_count_lem}
 use Rattle.store.specs.Store.{form_size, form_most, answer_to_write, buffer_after_write, Writes}
 use Rattle.std.specs.Prelude.{Ok, Err}
 use Rattle.refusals.specs.Refusal.{refusal_number, result_says}
-use Rattle.refusals.specs.declared.Refusal.TheVariants.{NotSound, NoRoom}
+use Rattle.refusals.specs.declared.Refusal.TheVariants.{NoRoom}
+use Rattle.refusals.specs.declared.Refusal.{Refusal}
 
 -- the words that stand for the first record's numbers give these numbers back
 pub head_number : {r : ℤ} {k : ℕ} → SFits w16 r → k < 65536 → r ≡ word_of k → number_of (to_z w16 (of_z w16 r)) ≡ k
@@ -92,9 +95,11 @@ module _ (c : Chart) (g : Given c) where
         buffer = rw (t, room buffer h) placed.buffer;
       }
 
-pub write_unsound : (c : Chart) (buffer : List ℕ) → sound_chart c ≡ false → Writes c buffer buffer (Err NotSound)
-unfolding result_says refusal_number answer_to_write buffer_after_write
-write_unsound c buffer t = record { says = rw t; buffer = rw t }
+pub write_unsound : (c : Chart) (buffer : List ℕ) (r : Refusal) → chart_says (Err r) ≡ checked_chart c → Writes c buffer buffer (Err r)
+unfolding result_says answer_to_write buffer_after_write
+write_unsound c buffer r e =
+    let t = not_checked c r e in
+    record { says = rw t (ap refused (checked_number c r e)); buffer = rw t }
 
 -- where a record ends
 pub record_ends : {before after : List ℕ} {at next : ℕ} (kind : ℕ) (ns : List ℕ) → Placed before at (record_of kind ns) after next

@@ -3,14 +3,15 @@ ghost use Rattle.rules.specs.Lists.{bytes_start};
 ghost use Rattle.store.specs.HeldChart.{IsHeld};
 
 use crate::read;
-use chart::Chart;
+use chart::sound::SoundChart;
 use refusals::Refusal;
 
 // The chart whose stored form is these bytes.
-pub fn held_in(bytes: &[u8]) -> Result<Chart, Refusal>
+#[tactic(auto, using(crate::proofs::HeldChart::held_sound))]
+pub fn held_in(bytes: &[u8]) -> Result<SoundChart, Refusal>
     ensures { IsHeld (bytes_start bytes.now) result }
 {
     let back = read(bytes);
     back.answer?;
-    Ok(back.chart)
+    Ok(SoundChart { chart: back.chart })
 }

@@ -11,18 +11,18 @@ mod numbers;
 mod reader;
 mod records;
 
-ghost use Rattle.std.specs.Prelude.{◌≡◌, true, ◌≤◌, length, Some};
+ghost use Rattle.std.specs.Prelude.{◌≡◌, ◌≤◌, length, Some};
 ghost use Rattle.rules.specs.Outcome.{refused};
 ghost use Rattle.refusals.specs.Refusal.{refusal_number};
 ghost use Rattle.rules.specs.Sizes.{base_most, series_most};
 ghost use Rattle.rules.specs.StoredForm.{stored_form};
 ghost use Rattle.rules.specs.ReadForm.{reading};
 ghost use Rattle.chart.specs.Chart.{state_of};
-ghost use Rattle.chart.specs.Soundness.{sound_chart};
 ghost use Rattle.rules.specs.Buffer.{Placed};
 ghost use Rattle.store.specs.Records.{layout_of, LiesWithin, filled_from};
 ghost use Rattle.store.specs.Store.{Writes, IsRead, Returns, form_size};
 
+use chart::sound::SoundChart;
 use chart::soundness::is_sound;
 use chart::{Called, Chart, zero_chart};
 use numbers::word_of;
@@ -57,21 +57,18 @@ pub const FORM_MOST: usize = 3 * BEFORE_NUMBERS
 pub fn write(chart: Chart, out: &mut [u8]) -> Result<usize, Refusal>
     ensures { Writes chart out.old out.new result }
 {
-    if !chart.sound() {
-        return Err(Refusal::NotSound);
-    }
-    write_sound(chart, out)
+    let sound = chart.checked()?;
+    write_sound(sound, out)
 }
 
-// The same for a chart that is known to be sound: one that was just read, or one that a call on a sound chart gave back.
-pub fn write_sound(chart: Chart, out: &mut [u8]) -> Result<usize, Refusal>
-    requires { sound_chart chart ≡ true }
-    ensures { Writes chart out.old out.new result }
+// The same for a chart that is known to be sound: one that was just read, or one that a call on a sound chart left.
+pub fn write_sound(sound: SoundChart, out: &mut [u8]) -> Result<usize, Refusal>
+    ensures { Writes sound.chart out.old out.new result }
 {
-    if out.len() < form_size(chart.base_len, chart.series_len) {
+    if out.len() < form_size(sound.chart.base_len, sound.chart.series_len) {
         return Err(Refusal::NoRoom);
     }
-    Ok(put_form(chart, out))
+    Ok(put_form(sound, out))
 }
 
 // Reads the chart that has these bytes as its stored form.
@@ -109,10 +106,11 @@ fn form_size(n: usize, m: usize) -> usize
 // Puts the stored form of a sound chart at the front of a buffer that has room for it. Answers its number of bytes. The numbers of the
 // first record are passed as the words that they stand for, so that one function writes all three records.
 #[tactic(auto, using(crate::proofs::Writing::sound_counts))]
-fn put_form(chart: Chart, out: &mut [u8]) -> usize
-    requires { (sound_chart chart ≡ true) × (form_size chart.base_len chart.series_len ≤ length out.old) }
-    ensures { Placed out.old 0 (stored_form (state_of chart)) out.new result }
+fn put_form(sound: SoundChart, out: &mut [u8]) -> usize
+    requires { form_size sound.chart.base_len sound.chart.series_len ≤ length out.old }
+    ensures { Placed out.old 0 (stored_form (state_of sound.chart)) out.new result }
 {
+    let chart = sound.chart;
     let head = [
         word_of(chart.kind),
         word_of(chart.status),

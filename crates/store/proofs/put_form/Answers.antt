@@ -14,35 +14,37 @@ use Rattle.store.proofs.put_form.Goals as goal
 
 pub put_record-after_base-requires : goal.put_record-after_base-requires
 put_record-after_base-requires c =
-    let (whole, fits) = c.requires in
-    let count = base_taken c.args.chart (search rules) (search rules) whole in
-    let few = sound_base_few c.args.chart (search rules) (search rules) whole in
+    let chart = c.args.sound.chart in
+    let whole = c.args.sound.sound in
+    let count = base_taken chart (search rules) (search rules) whole in
+    let few = sound_base_few chart (search rules) (search rules) whole in
     let end = record_ends _ _ c.put_record-after_head.ensures in
-    (omega (arith, count, few), omega (arith, fits, count, end))
+    (omega (arith, count, few), omega (arith, c.requires, count, end))
 
 pub put_record-requires : goal.put_record-requires
 put_record-requires c =
-    let (whole, fits) = c.requires in
-    let chart = c.args.chart in
+    let chart = c.args.sound.chart in
+    let whole = c.args.sound.sound in
     let bases = length-map (take chart.base_len chart.base) number_of in
     let base_count = base_taken chart (search rules) (search rules) whole in
     let count = series_taken chart (search rules) (search rules) whole in
     let few = sound_series_few chart (search rules) (search rules) whole in
     let first_end = record_ends _ _ c.put_record-after_head.ensures in
     let second-end = record_ends _ _ c.put_record-after_base.ensures in
-    (omega (arith, count, few), omega (arith, fits, bases, base_count, count, first_end, second-end))
+    (omega (arith, count, few), omega (arith, c.requires, bases, base_count, count, first_end, second-end))
 
 pub returns : goal.returns
 unfolding state_of head_numbers
 returns c =
-    let (whole, fits) = c.requires in
-    let kind_small : c.args.chart.kind < 65536 = search rules in
-    let status_small : c.args.chart.status < 65536 = search rules in
-    let verdict_small : c.args.chart.open_verdict < 65536 = search rules in
-    let size = form_size_lem c.args.chart (given c.args.chart (search rules) (search rules) whole) in
-    let room : length (stored_form (state_of c.args.chart)) ≤ length c.args.out.now = omega (arith, size, fits) in
+    let chart = c.args.sound.chart in
+    let whole = c.args.sound.sound in
+    let kind_small : chart.kind < 65536 = search rules in
+    let status_small : chart.status < 65536 = search rules in
+    let verdict_small : chart.open_verdict < 65536 = search rules in
+    let size = form_size_lem chart (given chart (search rules) (search rules) whole) in
+    let room : length (stored_form (state_of chart)) ≤ length c.args.out.now = omega (arith, size, c.requires) in
     let k = head_number (sfits_of c.word_of.type_inv) kind_small c.word_of.ensures in
     let s = head_number (sfits_of c.word_of-2.type_inv) status_small c.word_of-2.ensures in
     let v = head_number (sfits_of c.word_of-3.type_inv) verdict_small c.word_of-3.ensures in
-    form_placed (state_of c.args.chart) _ room (λ i. k i ∷ s i ∷ v i ∷ [])
+    form_placed (state_of chart) _ room (λ i. k i ∷ s i ∷ v i ∷ [])
     c.put_record-after_head.ensures c.put_record-after_base.ensures c.put_record.ensures

@@ -1,13 +1,15 @@
 -- `store::write` meets its contract: 14 first, and then writing of a sound chart.
-use Rattle.rules.proofs.Booleans.{answered_no, answered_yes}
+use mathlib.Core.Path.{◌≡◌}
+use Rattle.std.proofs.Common.{rules}
+use Rattle.std.specs.Prelude.{Err}
+use Rattle.chart.proofs.Checked.{same_checked}
 use Rattle.store.proofs.Writing.{write_unsound}
 use Rattle.store.proofs.write.Goals as goal
 
-pub returns-then-not-sound : goal.returns-then-not-sound
-returns-then-not-sound c = write_unsound _ _ (answered_no c.sound.ensures c.if-not-sound.true)
-
-pub write_sound-requires : goal.write_sound-requires
-write_sound-requires c = answered_yes c.sound.ensures c.if-not-sound.false
+pub returns-in_err-sound : goal.returns-in_err-sound
+returns-in_err-sound c =
+    let same : c.from_residual.result ≡ Err c.in_err-sound.field-0.0 = search rules in
+    rw same (write_unsound _ _ _ c.in_err-sound.ensures)
 
 pub returns : goal.returns
-returns c = c.write_sound.ensures
+returns c = rw (same_checked _ _ c.in_ok-sound.ensures) at c.write_sound.ensures

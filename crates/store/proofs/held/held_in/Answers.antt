@@ -1,5 +1,5 @@
 -- `store::held::held_in` meets its contract.
-use mathlib.Core.Path.{◌≡◌}
+use mathlib.Core.Path.{◌≡◌, refl}
 use Rattle.std.proofs.Common.{rules}
 use Rattle.std.specs.Prelude.{Err}
 use Rattle.store.proofs.HeldChart.{held_read, held_not_read}
@@ -11,4 +11,4 @@ returns-in_err-back c =
     rw same (held_not_read _ _ c.read-back.ensures _ c.in_err-back.was)
 
 pub returns : goal.returns
-returns c = held_read _ _ c.read-back.ensures c.in_ok-back.was
+returns c = held_read _ _ c.read-back.ensures c.in_ok-back.was refl
