@@ -11,18 +11,18 @@
 
 mod parts;
 
-ghost use Rattle.std.specs.Prelude.{◌≡◌, ◌^◌, ◌≤◌, true, unsigned_abs};
+ghost use Rattle.std.specs.Prelude.{◌≡◌, ◌^◌, ◌≤◌, unsigned_abs};
 ghost use Rattle.rules.specs.Double.{double_of};
 ghost use Rattle.rules.specs.State.{limits_for};
 ghost use Rattle.rules.specs.ChartLines.{lines_of, beyond_each};
 ghost use Rattle.limits.specs.Sums.{limits_say};
-ghost use Rattle.chart.specs.Chart.{state_of, LimitsFor};
-ghost use Rattle.chart.specs.Soundness.{sound_chart};
+ghost use Rattle.chart.specs.Chart.{state_of};
 ghost use Rattle.lines.specs.Lines.{beyond_says, float_above, float_below, float_beyond, parts_held};
 ghost use Rattle.lines.specs.Lines.{HasLines, lines_say, lines_answer_says, against_says, answer_to_lines, answer_to_against};
 
 use chart::Chart;
-use limits::{CONTROL, Limits, WARNING, beyond, has_lower, limits_of};
+use chart::sound::SoundChart;
+use limits::{CONTROL, Limits, WARNING, beyond, has_lower};
 use parts::{deviation_parts, lower_parts, mean_parts, upper_parts};
 use refusals::Refusal;
 
@@ -59,10 +59,8 @@ pub struct BeyondEach {
 pub fn lines_of(chart: Chart) -> Result<Lines, Refusal>
     ensures { lines_answer_says result ≡ answer_to_lines chart }
 {
-    if !chart.sound() {
-        return Err(Refusal::NotSound);
-    }
-    Ok(lines_of_sound(chart))
+    let sound = chart.checked()?;
+    Ok(lines_of_sound(sound))
 }
 
 // Whether a word is beyond each line of a chart, by the doubles. The exact limits give the same answer.
@@ -75,19 +73,17 @@ pub fn against_lines(chart: Chart, word: i16) -> Result<BeyondEach, Refusal>
 
 // ---- the same for a chart that is known to be sound, such as one that was just read
 
-pub fn lines_of_sound(chart: Chart) -> Lines
-    requires { sound_chart chart ≡ true }
-    ensures { lines_say result ≡ lines_of (limits_for (state_of chart)) }
+pub fn lines_of_sound(sound: SoundChart) -> Lines
+    ensures { lines_say result ≡ lines_of (limits_for (state_of sound.chart)) }
 {
-    lines_by(base_limits(chart))
+    lines_by(sound.limits())
 }
 
 // Compares with the exact limits, and works out no line.
-pub fn against_lines_sound(chart: Chart, word: i16) -> BeyondEach
-    requires { sound_chart chart ≡ true }
-    ensures { beyond_says result ≡ beyond_each (limits_for (state_of chart)) word }
+pub fn against_lines_sound(sound: SoundChart, word: i16) -> BeyondEach
+    ensures { beyond_says result ≡ beyond_each (limits_for (state_of sound.chart)) word }
 {
-    let l = base_limits(chart);
+    let l = sound.limits();
     let warning = beyond(WARNING, l, word);
     let control = beyond(CONTROL, l, word);
     BeyondEach {
@@ -96,16 +92,6 @@ pub fn against_lines_sound(chart: Chart, word: i16) -> BeyondEach
         lower_control: control.lower,
         upper_control: control.upper,
     }
-}
-
-// The limits that the chart's base gives.
-fn base_limits(chart: Chart) -> Limits
-    requires { sound_chart chart ≡ true }
-    ensures { LimitsFor (state_of chart) result }
-{
-    let base = chart.base;
-    let n = chart.base_len;
-    limits_of(chart.kind, &base[..n])
 }
 
 // ---- a word against doubles

@@ -6,7 +6,7 @@ use Rattle.lines.proofs.lines_of_sound.Goals as goal
 
 pub lines_by-requires : goal.lines_by-requires
 lines_by-requires c =
-    has_lines c.args.chart c.requires c.base_limits.result c.base_limits.ensures
+    has_lines c.args.sound.chart c.args.sound.sound c.limits.result c.limits.ensures
 
 pub returns : goal.returns
-returns c = c.lines_by.ensures ∙ ap lines_of c.base_limits.ensures.same
+returns c = c.lines_by.ensures ∙ ap lines_of c.limits.ensures.same
