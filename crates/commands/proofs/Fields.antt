@@ -1,7 +1,7 @@
 -- The fields of a line from a byte on: the first field and those after it (`none_found`, `one_found`, `first_field_is`, `fields_behind`),
 -- whether the first field begins a comment (`comment_found`), the number in it (`number_found`), how much of the line remains after it
 -- (`remaining`), and four numbers one after the other (`readings_found`).
-use mathlib.Core.Path.{◌≡◌, sym, ap, ◌∙◌}
+use mathlib.Core.Path.{◌≡◌, refl, sym, ap, ◌∙◌}
 use mathlib.Core.Bool.{Bool, true, not}
 use mathlib.Core.List.{List, [], ◌∷◌}
 use Prim.Native.Nat.{ℕ, zero, suc, ◌+◌, ◌-◌, ◌<◌, ◌≤◌}
@@ -15,13 +15,10 @@ use Rattle.rules.specs.Choice.{choose}
 use Rattle.rules.proofs.Integers.{by_order}
 use Rattle.rules.proofs.Choice.{choose_ind}
 use Rattle.rules.proofs.Booleans.{zero_not_one}
-use Rattle.std.specs.Prelude.{Result}
-use Rattle.parsing.specs.declared.numbers.NumberFault.{NumberFault}
-use Rattle.parsing.specs.Fields.{is_blank, in_front, starting_with, fields_of, between, IsFirstField}
-use Rattle.parsing.specs.Number.{number_in_field, number_says, kind_in_field, reading_in_field}
-use Rattle.commands.specs.declared.numbers.NumberAt.{NumberAt}
+use Rattle.parsing.specs.Fields.{is_blank, in_front, starting_with, fields_of, between, IsFirstField, IsSplit}
+use Rattle.parsing.specs.Number.{number_in_field, kind_in_field, reading_in_field}
 use Rattle.commands.specs.Command.{first_field, first_number, is_comment}
-use Rattle.commands.specs.Answers.{fields_from, IsFieldAt, IsNumberAt, AreReadings}
+use Rattle.commands.specs.Answers.{fields_from, IsFieldAt, AreReadings}
 
 -- the part of a line that begins at a byte, as a slice
 pub part_from : (line : List ℕ) (at : ℕ) → take (length line - at) (drop at line) ≡ drop at line
@@ -123,56 +120,44 @@ field_found {line} {at} {start} {end} h field =
       rest = rw (← drop-drop end at line) (fields_behind field);
     }
 
-pub number_found : {line : List ℕ} {at start end : ℕ} {n : Result ℤ NumberFault} → IsFieldAt line at start end
-    → number_says n ≡ number_in_field (between start end line)
-    → IsNumberAt line at (record { present = ltb start end; number = n; next = end })
-unfolding first_number
-number_found {line} {at} {start} {end} found says =
-    record {
-      present = found.present;
-      number = says ∙ ap number_in_field found.field;
-      rest = found.rest;
-      within = found.within;
-      behind = λ t. found.behind (ltb-true start end t);
-    }
+-- ---- the first field of a text and what follows it, as slices
 
--- ---- a loop over the numbers of a line ends
+module _ {text : List ℕ} where
+  pub first_is : (field : List ℕ) {rest : List ℕ} → IsSplit text field rest → field ≡ first_field (fields_of text)
+  first_is [] split = rw (split.none refl).0
+  first_is (b ∷ field) split = rw (split.some (omega arith))
 
--- how many bytes may still hold numbers, this one included
-unfoldable pub remaining : List ℕ → NumberAt → ℕ
-remaining line n = choose n.present (suc (length line - n.next)) 0
+  pub rest_is : (field : List ℕ) {rest : List ℕ} → IsSplit text field rest → fields_of rest ≡ drop 1 (fields_of text)
+  unfolding fields_of
+  rest_is [] split = rw ((split.none refl).0, (split.none refl).1)
+  rest_is (b ∷ field) split = rw (split.some (omega arith))
 
-pub less_remains : {line : List ℕ} (n : NumberAt) {m : NumberAt} → n.present ≡ true → IsNumberAt line n.next m
-    → remaining line m < remaining line n
-unfolding remaining
-less_remains {line} n {m} t found =
-    let left = length line - n.next in
-    rw t
-    (choose_ind (λ (k : ℕ). k < suc left) m.present (suc (length line - m.next)) 0
-    (λ s. omega (arith, found.behind s, found.within))
-    (λ s. omega arith))
+  pub number_is : (field : List ℕ) {rest : List ℕ} → IsSplit text field rest → number_in_field field ≡ first_number (fields_of text)
+  unfolding first_number
+  number_is field split = ap number_in_field (first_is field split)
 
--- ---- four numbers, one after the other
+-- ---- fields one after the other
 
-module _ {line : List ℕ} {at : ℕ} {n₁ n₂ : NumberAt} (first : IsNumberAt line at n₁) (second : IsNumberAt line n₁.next n₂) where
-  pub behind_two : fields_from line n₂.next ≡ drop 2 (fields_from line at)
-  behind_two = second.rest ∙ ap (drop 1) first.rest ∙ drop-drop 1 1 (fields_from line at)
+module _ {text first rest second rest₂ : List ℕ} (one : IsSplit text first rest) (two : IsSplit rest second rest₂) where
+  pub behind_two : fields_of rest₂ ≡ drop 2 (fields_of text)
+  behind_two = rest_is second two ∙ ap (drop 1) (rest_is first one) ∙ drop-drop 1 1 (fields_of text)
 
-  module _ {n₃ : NumberAt} (third : IsNumberAt line n₂.next n₃) where
-    pub behind_three : fields_from line n₃.next ≡ drop 3 (fields_from line at)
-    behind_three = third.rest ∙ ap (drop 1) behind_two ∙ drop-drop 1 2 (fields_from line at)
+  module _ {third rest₃ : List ℕ} (three : IsSplit rest₂ third rest₃) where
+    pub behind_three : fields_of rest₃ ≡ drop 3 (fields_of text)
+    behind_three = rest_is third three ∙ ap (drop 1) behind_two ∙ drop-drop 1 2 (fields_of text)
 
-    module _ {n₄ : NumberAt} (fourth : IsNumberAt line n₃.next n₄) where
-      pub behind_four : fields_from line n₄.next ≡ drop 4 (fields_from line at)
-      behind_four = fourth.rest ∙ ap (drop 1) behind_three ∙ drop-drop 1 3 (fields_from line at)
+    module _ {fourth rest₄ : List ℕ} (four : IsSplit rest₃ fourth rest₄) where
+      pub behind_four : fields_of rest₄ ≡ drop 4 (fields_of text)
+      behind_four = rest_is fourth four ∙ ap (drop 1) behind_three ∙ drop-drop 1 3 (fields_of text)
 
-      pub readings_found : {kind : ℕ} {a b c : ℤ} → kind ≡ kind_in_field (number_says n₁.number) → a ≡ reading_in_field (number_says n₂.number)
-          → b ≡ reading_in_field (number_says n₃.number) → c ≡ reading_in_field (number_says n₄.number)
-          → AreReadings (fields_from line at) (record { kind = kind; a = a; b = b; c = c })
-      readings_found is_kind_lem is-a is_b is_c =
+      pub readings_found : {kind : ℕ} {a b c : ℤ} → kind ≡ kind_in_field (number_in_field first)
+          → a ≡ reading_in_field (number_in_field second)
+          → b ≡ reading_in_field (number_in_field third) → c ≡ reading_in_field (number_in_field fourth)
+          → AreReadings (fields_of text) (record { kind = kind; a = a; b = b; c = c })
+      readings_found is_kind is_a is_b is_c =
           record {
-            kind = is_kind_lem ∙ ap kind_in_field first.number;
-            a = is-a ∙ ap reading_in_field (second.number ∙ ap first_number first.rest);
-            b = is_b ∙ ap reading_in_field (third.number ∙ ap first_number behind_two);
-            c = is_c ∙ ap reading_in_field (fourth.number ∙ ap first_number behind_three);
+            kind = is_kind ∙ ap kind_in_field (number_is first one);
+            a = is_a ∙ ap reading_in_field (number_is second two ∙ ap first_number (rest_is first one));
+            b = is_b ∙ ap reading_in_field (number_is third three ∙ ap first_number behind_two);
+            c = is_c ∙ ap reading_in_field (number_is fourth four ∙ ap first_number behind_three);
           }

@@ -1,16 +1,15 @@
 -- What the functions of `commands` give.
 use Rattle.std.specs.Prelude.{◌≡◌, true, not, List, ℕ, ◌-◌, ◌≤◌, ◌<◌, length, drop, eqb, ltb, Result, Ok, Err}
-use Rattle.rules.specs.Choice.{require}
+use Rattle.rules.specs.Choice.{choose}
 use Rattle.refusals.specs.declared.Refusal.{Refusal}
 use Rattle.chart.specs.declared.Chart.{Chart}
 use Rattle.chart.specs.declared.Called.{Called}
 use Rattle.rules.specs.Word.{word_alone}
 use Rattle.rules.specs.Buffer.{Placed}
 use Rattle.parsing.specs.Fields.{fields_of, between, IsFirstField}
-use Rattle.parsing.specs.Number.{FieldNumber, number_says, kind_in_field, reading_in_field}
+use Rattle.parsing.specs.Number.{FieldNumber, number_in_field, kind_in_field, reading_in_field}
 use Rattle.printing.specs.Output.{Puts}
 use Rattle.commands.specs.declared.Answered.{Answered}
-use Rattle.commands.specs.declared.numbers.NumberAt.{NumberAt}
 use Rattle.commands.specs.declared.numbers.Readings.{Readings}
 use Rattle.replies.specs.declared.Fault.TheVariants as faults
 use Rattle.replies.specs.Texts.{formed_text}
@@ -46,14 +45,6 @@ pub record IsFieldAt (line : List ℕ) (at start end : ℕ) : Type 0 where
   pub field : between start end line ≡ first_field (fields_from line at)
   pub rest : fields_from line end ≡ drop 1 (fields_from line at)
 
--- the number in the first field from a byte on, and a byte from which the other fields follow
-pub record IsNumberAt (line : List ℕ) (at : ℕ) (r : NumberAt) : Type 0 where
-  pub present : r.present ≡ not (eqb (length (fields_from line at)) 0)
-  pub number : number_says r.number ≡ first_number (fields_from line at)
-  pub rest : fields_from line r.next ≡ drop 1 (fields_from line at)
-  pub within : r.next ≤ length line
-  pub behind : r.present ≡ true → at < r.next
-
 -- the kind and the three readings in the first four fields
 pub record AreReadings (fields : List (List ℕ)) (r : Readings) : Type 0 where
   pub kind : r.kind ≡ kind_in_field (first_number fields)
@@ -61,9 +52,9 @@ pub record AreReadings (fields : List (List ℕ)) (r : Readings) : Type 0 where
   pub b : r.b ≡ reading_in_field (first_number (drop 2 fields))
   pub c : r.c ≡ reading_in_field (first_number (drop 3 fields))
 
--- the fault of a number that the command takes. If there is no field, the number is missing
-unfoldable pub fault_at : (FieldNumber → Finding) → NumberAt → Finding
-fault_at fault n = require n.present (Err faults.MissingNumber) (fault (number_says n.number))
+-- the fault of a number that the command takes. If the field is empty, the number is missing
+unfoldable pub fault_in : (FieldNumber → Finding) → List ℕ → Finding
+fault_in fault field = choose (eqb (length field) 0) (Err faults.MissingNumber) (fault (number_in_field field))
 
 -- the chart after a call that was not refused, or else the one before it
 abbrev pub either_chart : {A : Type 0} → Result A Refusal → Chart → Chart → Chart

@@ -9,21 +9,22 @@ pub mod names;
 mod numbers;
 
 ghost use Rattle.std.specs.Prelude.{◌≡◌, ◌≤◌, length};
+ghost use Rattle.parsing.specs.Fields.{fields_of};
 ghost use Rattle.printing.specs.Output.{Puts};
 ghost use Rattle.commands.specs.declared.names.Change.TheVariants as change;
 ghost use Rattle.commands.specs.Command.{line_most, faulty, asked, change_for, inquiry_for, command_for, line_in, is_build};
 ghost use Rattle.commands.specs.Command as command;
 ghost use Rattle.commands.specs.Reply.{reply_to};
-ghost use Rattle.commands.specs.Answers.{Answers, AnswersInFull, Replies, fields_from, chart_kept, word_reply};
+ghost use Rattle.commands.specs.Answers.{Answers, AnswersInFull, Replies, chart_kept, word_reply};
 
 use chart::{Called, Chart};
 use faults::fault_for;
 use lines::lines_of;
 use names::{Change, Inquiry, Name, name_in};
-use numbers::{field_at, number_field_at, put_words_at, readings_at};
-use parsing::fields::{first_field, same_bytes};
+use numbers::{put_words, readings_in};
+use parsing::fields::{same_bytes, split_field};
 use parsing::hex::put_bytes_of_hex;
-use parsing::numbers::kind_in_field;
+use parsing::numbers::{kind_in_field, number_in_field};
 use printing::put_byte;
 use replies::{
     Fault, put_build, put_chart, put_correction, put_fault, put_form, put_form_read, put_formed,
@@ -60,21 +61,16 @@ fn answer(chart: Chart, line: &[u8], out: &mut [u8]) -> Answered
     if LINE_MOST < line.len() {
         return answer_fault(chart, Fault::LineTooLong, out);
     }
-    let field = first_field(line);
-    let start = field.start;
-    let end = field.end;
-    if start == end {
+    let (first, fields) = split_field(line);
+    if first.is_empty() || first[0] == b'#' {
         return Answered { chart, size: 0 };
     }
-    if line[start] == b'#' {
-        return Answered { chart, size: 0 };
-    }
-    let name = name_in(&line[start..end]);
-    let found = fault_for(name, line, end);
+    let name = name_in(first);
+    let found = fault_for(name, fields);
     match found {
         Err(fault) => answer_fault(chart, fault, out),
         Ok(()) => {
-            let r = perform(chart, name, line, end, out);
+            let r = perform(chart, name, fields, out);
             let after = r.chart;
             let size = put_byte(out, r.size, b'\n');
             Answered { chart: after, size }
@@ -86,10 +82,8 @@ fn answer(chart: Chart, line: &[u8], out: &mut [u8]) -> Answered
 pub fn is_build(line: &[u8]) -> bool
     ensures { result ≡ is_build line.now }
 {
-    let field = first_field(line);
-    let start = field.start;
-    let end = field.end;
-    same_bytes(&line[start..end], b"build")
+    let (first, _) = split_field(line);
+    same_bytes(first, b"build")
 }
 
 // Answers what is wrong with a line. The chart does not change.
@@ -101,15 +95,15 @@ fn answer_fault(chart: Chart, fault: Fault, out: &mut [u8]) -> Answered
     Answered { chart, size }
 }
 
-// Runs the command with this name. It takes the fields from a byte on.
-fn perform(chart: Chart, name: Name, line: &[u8], at: usize, out: &mut [u8]) -> Answered
-    requires { (at ≤ length line.now) × (length line.now ≤ line_most) }
-    ensures { Replies chart (command_for name (fields_from line.now at)) out.old out.new result }
+// Runs the command with this name, on the fields after the name.
+fn perform(chart: Chart, name: Name, fields: &[u8], out: &mut [u8]) -> Answered
+    requires { length fields.now ≤ line_most }
+    ensures { Replies chart (command_for name (fields_of fields.now)) out.old out.new result }
 {
     match name {
-        Name::Changes(change) => make_change(chart, change, line, at, out),
+        Name::Changes(change) => make_change(chart, change, fields, out),
         Name::Asks(inquiry) => {
-            let size = put_inquiry(chart, inquiry, line, at, out);
+            let size = put_inquiry(chart, inquiry, fields, out);
             Answered { chart, size }
         }
         Name::Other => {
@@ -121,28 +115,28 @@ fn perform(chart: Chart, name: Name, line: &[u8], at: usize, out: &mut [u8]) -> 
 
 // ---- commands that may change the chart
 
-fn make_change(chart: Chart, change: Change, line: &[u8], at: usize, out: &mut [u8]) -> Answered
-    requires { (at ≤ length line.now) × (length line.now ≤ line_most) }
-    ensures { Replies chart (asked (change_for change (fields_from line.now at))) out.old out.new result }
+fn make_change(chart: Chart, change: Change, fields: &[u8], out: &mut [u8]) -> Answered
+    requires { length fields.now ≤ line_most }
+    ensures { Replies chart (asked (change_for change (fields_of fields.now))) out.old out.new result }
 {
     match change {
-        Change::Build => build(chart, line, at, out),
-        Change::Post => post(chart, line, at, out),
-        Change::Reanalyse => reanalyse(chart, line, at, out),
+        Change::Build => build(chart, fields, out),
+        Change::Post => post(chart, fields, out),
+        Change::Reanalyse => reanalyse(chart, fields, out),
         Change::Correct => correct(chart, out),
         Change::Renew => renew(chart, out),
-        Change::Read => read(chart, line, at, out),
+        Change::Read => read(chart, fields, out),
     }
 }
 
-fn build(chart: Chart, line: &[u8], at: usize, out: &mut [u8]) -> Answered
-    requires { (at ≤ length line.now) × (length line.now ≤ line_most) }
-    ensures { Replies chart (asked (change_for change.Build (fields_from line.now at))) out.old out.new result }
+fn build(chart: Chart, fields: &[u8], out: &mut [u8]) -> Answered
+    requires { length fields.now ≤ line_most }
+    ensures { Replies chart (asked (change_for change.Build (fields_of fields.now))) out.old out.new result }
 {
-    let first = number_field_at(line, at);
+    let (kind, rest) = split_field(fields);
     let mut words = [0i16; LINE_MOST];
-    let n = put_words_at(line, first.next, &mut words);
-    let r = Chart::build(kind_in_field(first.number), &words[..n]);
+    let n = put_words(rest, &mut words);
+    let r = Chart::build(kind_in_field(number_in_field(kind)), &words[..n]);
     let size = put_build(out, r.answer);
     Answered {
         chart: chart_kept(chart, r),
@@ -160,11 +154,10 @@ fn chart_kept<A: Copy>(chart: Chart, r: Called<A>) -> Chart
     }
 }
 
-fn post(chart: Chart, line: &[u8], at: usize, out: &mut [u8]) -> Answered
-    requires { at ≤ length line.now }
-    ensures { Replies chart (asked (change_for change.Post (fields_from line.now at))) out.old out.new result }
+fn post(chart: Chart, fields: &[u8], out: &mut [u8]) -> Answered
+    ensures { Replies chart (asked (change_for change.Post (fields_of fields.now))) out.old out.new result }
 {
-    let f = readings_at(line, at);
+    let f = readings_in(fields);
     let r = chart.post(f.kind, f.a, f.b, f.c);
     let size = put_post(out, r.answer);
     Answered {
@@ -173,11 +166,10 @@ fn post(chart: Chart, line: &[u8], at: usize, out: &mut [u8]) -> Answered
     }
 }
 
-fn reanalyse(chart: Chart, line: &[u8], at: usize, out: &mut [u8]) -> Answered
-    requires { at ≤ length line.now }
-    ensures { Replies chart (asked (change_for change.Reanalyse (fields_from line.now at))) out.old out.new result }
+fn reanalyse(chart: Chart, fields: &[u8], out: &mut [u8]) -> Answered
+    ensures { Replies chart (asked (change_for change.Reanalyse (fields_of fields.now))) out.old out.new result }
 {
-    let f = readings_at(line, at);
+    let f = readings_in(fields);
     let r = chart.reanalyse(f.kind, f.a, f.b, f.c);
     let size = put_reanalysis(out, r.answer);
     Answered {
@@ -208,15 +200,13 @@ fn renew(chart: Chart, out: &mut [u8]) -> Answered
     }
 }
 
-fn read(chart: Chart, line: &[u8], at: usize, out: &mut [u8]) -> Answered
-    requires { (at ≤ length line.now) × (length line.now ≤ line_most) }
-    ensures { Replies chart (asked (change_for change.Read (fields_from line.now at))) out.old out.new result }
+fn read(chart: Chart, fields: &[u8], out: &mut [u8]) -> Answered
+    requires { length fields.now ≤ line_most }
+    ensures { Replies chart (asked (change_for change.Read (fields_of fields.now))) out.old out.new result }
 {
-    let field = field_at(line, at);
-    let start = field.start;
-    let end = field.end;
+    let (digits, _) = split_field(fields);
     let mut bytes = [0u8; LINE_MOST];
-    let n = put_bytes_of_hex(&line[start..end], &mut bytes);
+    let n = put_bytes_of_hex(digits, &mut bytes);
     let r = store::read(&bytes[..n]);
     let size = put_form_read(out, r.answer);
     Answered {
@@ -227,23 +217,21 @@ fn read(chart: Chart, line: &[u8], at: usize, out: &mut [u8]) -> Answered
 
 // ---- commands that do not change the chart
 
-fn put_inquiry(chart: Chart, inquiry: Inquiry, line: &[u8], at: usize, out: &mut [u8]) -> usize
-    requires { at ≤ length line.now }
-    ensures { Puts out.old 0 (reply_to chart (inquiry_for inquiry (fields_from line.now at))) out.new result }
+fn put_inquiry(chart: Chart, inquiry: Inquiry, fields: &[u8], out: &mut [u8]) -> usize
+    ensures { Puts out.old 0 (reply_to chart (inquiry_for inquiry (fields_of fields.now))) out.new result }
 {
     match inquiry {
-        Inquiry::Word => word(line, at, out),
+        Inquiry::Word => word(fields, out),
         Inquiry::Lines => put_lines(out, lines_of(chart)),
         Inquiry::Write => write(chart, out),
         Inquiry::Show => put_chart(out, chart),
     }
 }
 
-fn word(line: &[u8], at: usize, out: &mut [u8]) -> usize
-    requires { at ≤ length line.now }
-    ensures { Puts out.old 0 (word_reply (fields_from line.now at)) out.new result }
+fn word(fields: &[u8], out: &mut [u8]) -> usize
+    ensures { Puts out.old 0 (word_reply (fields_of fields.now)) out.new result }
 {
-    let f = readings_at(line, at);
+    let f = readings_in(fields);
     put_formed(out, words::word(f.kind, f.a, f.b, f.c))
 }
 

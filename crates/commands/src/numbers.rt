@@ -1,23 +1,12 @@
-// The fields of a line from a byte on, and the numbers in them.
+// The fields of a line, and the numbers in them.
 ghost use Rattle.std.specs.Prelude.{◌≤◌, length};
 ghost use Rattle.rules.specs.Buffer.{Placed};
+ghost use Rattle.parsing.specs.Fields.{fields_of};
 ghost use Rattle.commands.specs.Command.{words_in};
-ghost use Rattle.commands.specs.Answers.{fields_from, IsFieldAt, IsNumberAt, AreReadings};
+ghost use Rattle.commands.specs.Answers.{IsFieldAt, AreReadings};
 
-use parsing::fields::{Field, first_field};
-use parsing::numbers::{
-    NumberFault, kind_in_field, number_in_field, reading_in_field, word_in_field,
-};
-
-// The number in a field.
-#[derive(Clone, Copy)]
-pub struct NumberAt {
-    // Whether there is a field.
-    pub present: bool,
-    pub number: Result<i64, NumberFault>,
-    // A byte from which the other fields follow.
-    pub next: usize,
-}
+use parsing::fields::{Field, first_field, split_field};
+use parsing::numbers::{kind_in_field, number_in_field, reading_in_field, word_in_field};
 
 // A kind and three readings.
 #[derive(Clone, Copy)]
@@ -42,48 +31,32 @@ pub fn field_at(line: &[u8], at: usize) -> Field
     }
 }
 
-pub fn number_field_at(line: &[u8], at: usize) -> NumberAt
-    requires { at ≤ length line.now }
-    ensures { IsNumberAt line.now at result }
+pub fn readings_in(fields: &[u8]) -> Readings
+    ensures { AreReadings (fields_of fields.now) result }
 {
-    let field = field_at(line, at);
-    let start = field.start;
-    let end = field.end;
-    let number = number_in_field(&line[start..end]);
-    NumberAt {
-        present: start < end,
-        number,
-        next: end,
-    }
-}
-
-pub fn readings_at(line: &[u8], at: usize) -> Readings
-    requires { at ≤ length line.now }
-    ensures { AreReadings (fields_from line.now at) result }
-{
-    let first = number_field_at(line, at);
-    let second = number_field_at(line, first.next);
-    let third = number_field_at(line, second.next);
-    let fourth = number_field_at(line, third.next);
+    let (kind, rest) = split_field(fields);
+    let (a, rest) = split_field(rest);
+    let (b, rest) = split_field(rest);
+    let (c, _) = split_field(rest);
     Readings {
-        kind: kind_in_field(first.number),
-        a: reading_in_field(second.number),
-        b: reading_in_field(third.number),
-        c: reading_in_field(fourth.number),
+        kind: kind_in_field(number_in_field(kind)),
+        a: reading_in_field(number_in_field(a)),
+        b: reading_in_field(number_in_field(b)),
+        c: reading_in_field(number_in_field(c)),
     }
 }
 
 // Puts the numbers of the fields, as words, at the front of a buffer. Answers how many they are.
-pub fn put_words_at(line: &[u8], at: usize, words: &mut [i16]) -> usize
-    requires { (at ≤ length line.now) × (length line.now ≤ length words.old) }
-    ensures { Placed words.old 0 (words_in (fields_from line.now at)) words.new result }
+pub fn put_words(fields: &[u8], words: &mut [i16]) -> usize
+    requires { length fields.now ≤ length words.old }
+    ensures { Placed words.old 0 (words_in (fields_of fields.now)) words.new result }
 {
     let mut count: usize = 0;
-    let mut n = number_field_at(line, at);
-    while n.present {
-        words[count] = word_in_field(n.number);
+    let (mut field, mut rest) = split_field(fields);
+    while !field.is_empty() {
+        words[count] = word_in_field(number_in_field(field));
         count += 1;
-        n = number_field_at(line, n.next);
+        (field, rest) = split_field(rest);
     }
     count
 }

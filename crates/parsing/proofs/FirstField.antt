@@ -6,7 +6,7 @@ use mathlib.Core.List.{List, [], ◌∷◌}
 use Prim.Native.Nat.{ℕ, zero, suc, ◌+◌, ◌-◌, ◌<◌, ◌≤◌}
 use native.Mathlib.Omega.{arith}
 use lib.ListN.{length, take, drop, get_or, length-drop, drop_of_length-le}
-use lib.Seq.{get_or-drop, drop-drop, take_all}
+use lib.Seq.{get_or-drop, drop-drop, take_all, length-take-le}
 use lib.Dec.{ltb}
 use borrow.Author.Tests.{lt-ltb, le-ltb, ltb-false}
 use Rattle.std.specs.List.{position, position_or_len}
@@ -15,7 +15,7 @@ use Rattle.std.specs.Option.{unwrap_or}
 use Rattle.std.proofs.lemmas.List.Sums.{fails_before_first, passes_at_first, prefix_len-le-length}
 use Rattle.rules.proofs.Integers.{by_order}
 use Rattle.rules.proofs.Booleans.{by_test}
-use Rattle.parsing.specs.Fields.{is_blank, in_front, fields_of, between, IsFirstField, AfterBlanks, AfterField}
+use Rattle.parsing.specs.Fields.{is_blank, in_front, fields_of, between, IsFirstField, IsSplit, AfterBlanks, AfterField}
 
 -- ---- the first blank
 
@@ -115,3 +115,25 @@ module _ {text : List ℕ} {start end : ℕ} (blanks : AfterBlanks text start) (
             (λ none. rw (le-ltb start end none) (no_field_there none))
             (λ some. rw (lt-ltb start end some) (field_there some));
       }
+
+  -- the field and what follows it, as slices
+  pub field_split : IsSplit text (between start end text) (take (length text - end) (drop end text))
+  field_split =
+      let found = first_field_lem in
+      let behind = length-drop start text in
+      let size : length (between start end text) ≡ end - start =
+      length-take-le (end - start) (drop start text) (omega (arith, field.within)) in
+      let left = length-drop end text in
+      let whole : take (length text - end) (drop end text) ≡ drop end text = take_all _ _ (omega arith) in
+      rw whole (record {
+        some = λ more. let inside : start < end = omega (arith, size) in rw (lt-ltb start end inside) at found.fields;
+        none =
+            λ empty.
+            let same : end ≡ start = omega (arith, size, field.ordered) in
+            let past : length text ≤ end =
+            by_order end (length text)
+            (λ past. past)
+            (λ within. absurd (false≢true (sym (blanks.stops (omega arith)) ∙ (rw same at field.stops) (omega arith)))) in
+            (rw (le-ltb start end (omega arith)) at found.fields, drop_of_length-le text past);
+        shorter = omega (arith, size, field.within, field.ordered);
+      })

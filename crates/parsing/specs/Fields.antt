@@ -1,5 +1,5 @@
 -- The fields of a line: the longest runs of bytes that are not blanks. A blank is a space or a tab.
-use Rattle.std.specs.Prelude.{◌≡◌, Bool, true, false, ◌||◌, List, [], ◌∷◌, ℕ, ◌-◌, ◌≤◌, ◌<◌, length, take, drop, get_or, eqb, ltb}
+use Rattle.std.specs.Prelude.{◌≡◌, Bool, true, false, ◌||◌, List, [], ◌∷◌, ℕ, ◌+◌, ◌-◌, ◌≤◌, ◌<◌, length, take, drop, get_or, eqb, ltb}
 use Rattle.rules.specs.Choice.{choose}
 
 unfoldable pub is_blank : ℕ → Bool
@@ -44,6 +44,13 @@ pub record IsFirstField (text : List ℕ) (start end : ℕ) : Type 0 where
   pub from : AfterBlanks text start
   pub to : AfterField text start end
   pub fields : fields_of text ≡ choose (ltb start end) (between start end text ∷ fields_of (drop end text)) []
+
+-- if `field` is not empty, it is the first field of the text, and the other fields are those of `rest`. If it is empty, the text has no
+-- field, and `rest` is empty too
+pub record IsSplit (text field rest : List ℕ) : Type 0 where
+  pub some : 0 < length field → fields_of text ≡ field ∷ fields_of rest
+  pub none : length field ≡ 0 → (fields_of text ≡ []) × (rest ≡ [])
+  pub shorter : length field + length rest ≤ length text
 
 -- a line without a carriage return at its end
 unfoldable pub without_return : List ℕ → List ℕ

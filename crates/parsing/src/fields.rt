@@ -1,7 +1,7 @@
 // The fields of a line: the longest runs of bytes that are not blanks.
 ghost use Rattle.std.specs.Prelude.{◌≡◌, ◌≤◌, length};
 ghost use Rattle.parsing.specs.Bytes.{same_bytes};
-ghost use Rattle.parsing.specs.Fields.{is_blank, IsFirstField, AfterBlanks, AfterField, IsWithoutReturn};
+ghost use Rattle.parsing.specs.Fields.{is_blank, IsFirstField, IsSplit, AfterBlanks, AfterField, IsWithoutReturn};
 
 // The place of a field: its first byte, and the byte after its last.
 #[derive(Clone, Copy)]
@@ -17,6 +17,15 @@ pub fn first_field(text: &[u8]) -> Field
     let start = after_blanks(text);
     let end = after_field(text, start);
     Field { start, end }
+}
+
+// The first field, and what follows it. If there is no field, both are empty.
+pub fn split_field(text: &[u8]) -> (&[u8], &[u8])
+    ensures { IsSplit text.now result.0.now result.1.now }
+{
+    let start = after_blanks(text);
+    let end = after_field(text, start);
+    (&text[start..end], &text[end..])
 }
 
 // How many bytes a line has without a carriage return at its end.

@@ -13,7 +13,7 @@ pub returns : goal.returns
 unfolding reply_to chart_after_command
 returns c =
     let told = c.struct_told-3-1.given in
-    let found = c.readings_at-f in
+    let found = c.readings_in-f in
     let numbers = found.result in
     let are = found.ensures in
     let gives = rw (

@@ -9,7 +9,7 @@ pub returns : goal.returns
 unfolding word_reply
 returns c =
     let told = c.struct_told-3-1.given in
-    let found = c.readings_at-f in
+    let found = c.readings_in-f in
     let numbers = found.result in
     let are = found.ensures in
     rw (

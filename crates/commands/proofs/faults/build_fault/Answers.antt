@@ -4,16 +4,17 @@ use Rattle.std.proofs.Common.{rules}
 use Rattle.std.specs.Prelude.{Err}
 use Rattle.commands.specs.Command.{build_fault, words_fault}
 use Rattle.commands.proofs.FirstFault.{kind_found}
+use Rattle.commands.proofs.Fields.{first_is, rest_is}
 use Rattle.commands.proofs.faults.build_fault.Goals as goal
 
 pub returns-in_err-number_fault : goal.returns-in_err-number_fault
 unfolding build_fault
 returns-in_err-number_fault c =
     let same : c.from_residual.result ≡ Err c.in_err-number_fault.field-0.0 = search rules in
-    rw (same, kind_found c.number_field_at-kind.ensures c.in_err-number_fault.ensures)
+    rw (same, kind_found c.split_field.ensures c.in_err-number_fault.ensures)
 
 pub returns : goal.returns
 unfolding build_fault
 returns c =
-    let found = c.number_field_at-kind.ensures in
-    rw (kind_found found c.in_ok-number_fault.ensures) (c.words_fault.ensures ∙ ap words_fault found.rest)
+    let found = c.split_field.ensures in
+    rw (kind_found found c.in_ok-number_fault.ensures) (c.words_fault.ensures ∙ ap words_fault (rest_is _ found))

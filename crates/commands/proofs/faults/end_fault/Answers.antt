@@ -1,9 +1,10 @@
 -- `commands::faults::end_fault` meets its contract.
-use Rattle.commands.proofs.FirstFault.{end_found}
+use Rattle.std.proofs.Common.{rules, tests}
+use Rattle.commands.proofs.FirstFault.{no_end, end_found}
 use Rattle.commands.proofs.faults.end_fault.Goals as goal
 
-pub returns-then-n : goal.returns-then-n
-returns-then-n c = rw c.if-n.true at (end_found c.number_field_at-n.ensures)
+pub returns-then-not-is_empty : goal.returns-then-not-is_empty
+returns-then-not-is_empty c = no_end _ c.split_field.ensures (search (rules, tests))
 
 pub returns : goal.returns
-returns c = rw c.if-n.false at (end_found c.number_field_at-n.ensures)
+returns c = end_found _ c.split_field.ensures (search (rules, tests))

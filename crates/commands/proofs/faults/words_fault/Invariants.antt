@@ -1,10 +1,11 @@
--- `commands::faults::words_fault` meets its contract. The loop's invariant: no word before the present number has a fault.
-use Rattle.commands.proofs.Fields.{remaining}
+-- `commands::faults::words_fault` meets its contract. The loop's invariant: no word before the present field has a fault.
+use Prim.Native.Nat.{◌+◌}
+use lib.ListN.{length}
 use Rattle.commands.proofs.FirstFault.{FaultsFrom}
 use Rattle.commands.proofs.faults.words_fault.Given as goal
 
-abbrev pub invariant-loop-n : goal.invariant-loop-n
-invariant-loop-n l = FaultsFrom l.line l.at l.n
+abbrev pub invariant-loop-field : goal.invariant-loop-field
+invariant-loop-field l = FaultsFrom l.fields l.field l.rest
 
-abbrev pub decreases-loop-n : goal.decreases-loop-n
-decreases-loop-n l = remaining l.line l.n
+abbrev pub decreases-loop-field : goal.decreases-loop-field
+decreases-loop-field l = length l.field + length l.rest
