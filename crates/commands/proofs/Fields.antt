@@ -136,6 +136,11 @@ module _ {text : List ℕ} where
   unfolding first_number
   number_is field split = ap number_in_field (first_is field split)
 
+-- the field's first byte
+pub comment_is : (field : List ℕ) → 0 < length field → is_comment field ≡ eqb (get_or field 0 0) 35
+comment_is [] some = absurd (omega arith)
+comment_is (b ∷ field) some = refl
+
 -- ---- fields one after the other
 
 module _ {text first rest second rest₂ : List ℕ} (one : IsSplit text first rest) (two : IsSplit rest second rest₂) where

@@ -1,17 +1,17 @@
--- Laws of what a line is: too long (`too_long`), passed over (`no_field`, `a_comment`), with a fault (`a_fault`), without a fault
--- (`no_fault`). A law of the line feed after a reply (`line_fed`).
+-- Laws of what a line is: too long (`too_long`), passed over (`no_field`, `a_comment`, `nothing_said`), with a fault (`a_fault`), without a
+-- fault (`without_fault`). A law of the line feed after a reply (`line_fed`).
 use mathlib.Core.Path.{◌≡◌, refl, ap, ◌∙◌}
 use mathlib.Core.Bool.{true, false}
 use mathlib.Core.List.{List, [], ◌∷◌, ◌++◌}
 use Prim.Native.Nat.{ℕ, ◌≤◌, ◌<◌}
 use native.Mathlib.Omega.{arith}
 use borrow.Author.Tests.{lt-leb, le-leb}
-use lib.ListN.{length, drop, get_or}
+use lib.ListN.{length, get_or}
 use lib.Dec.{eqb}
 use Rattle.chart.specs.declared.Chart.{Chart}
-use Rattle.parsing.specs.Fields.{fields_of, between, IsFirstField}
+use Rattle.parsing.specs.Fields.{fields_of, IsSplit}
 use Rattle.printing.specs.Output.{Puts}
-use Rattle.printing.proofs.Putting.{puts_then}
+use Rattle.printing.proofs.Putting.{puts_none, puts_then}
 use Rattle.replies.specs.declared.Fault.{Fault}
 use Rattle.replies.specs.declared.Fault.TheVariants as faults
 use Rattle.commands.specs.declared.names.Name.{Name}
@@ -20,40 +20,45 @@ use Rattle.std.specs.Prelude.{Ok, Err}
 use Rattle.commands.specs.Command.{Finding, passed_over, faulty, line_most, command_for, fault_for, name_in, named_line, line_of, line_in}
 use Rattle.commands.specs.Reply.{reply_to_line, answer_to_line}
 use Rattle.commands.specs.Answers.{Answers, Replies}
-use Rattle.commands.proofs.Fields.{none_found, one_found, comment_found}
+use Rattle.commands.proofs.Fields.{comment_is}
 
 pub too_long : (text : List ℕ) → line_most < length text → line_in text ≡ faulty faults.LineTooLong
 unfolding line_in
 too_long text h = rw (lt-leb (length text) line_most h)
 
-module _ (text : List ℕ) (start end : ℕ) (short : length text ≤ line_most) (f : IsFirstField text start end) where
+module _ (text first rest : List ℕ) (short : length text ≤ line_most) (split : IsSplit text first rest) where
   by_fields : line_in text ≡ line_of (fields_of text)
   unfolding line_in
   by_fields = rw (le-leb (length text) line_most short)
 
-  pub no_field : start ≡ end → line_in text ≡ passed_over
+  pub no_field : length first ≡ 0 → line_in text ≡ passed_over
   unfolding line_of
-  no_field e = by_fields ∙ ap line_of (none_found f (omega arith))
+  no_field none = by_fields ∙ ap line_of (split.none none).0
 
-  module _ (some : start < end) where
-    pub a_comment : eqb (get_or text start 0) 35 ≡ true → line_in text ≡ passed_over
+  module _ (some : 0 < length first) where
+    pub a_comment : eqb (get_or first 0 0) 35 ≡ true → line_in text ≡ passed_over
     unfolding line_of
-    a_comment e = by_fields ∙ ap line_of (one_found f some) ∙ rw (comment_found f some, e)
+    a_comment e = by_fields ∙ ap line_of (split.some some) ∙ rw (comment_is first some, e)
 
     -- a command, by its name and the fault of the fields after it
-    module _ (e : eqb (get_or text start 0) 35 ≡ false) (n : Name) (named : n ≡ name_in (between start end text))
-        (found : Finding) (is_found : found ≡ fault_for n (fields_of (drop end text))) where
-      a_command : line_in text ≡ named_line n (fields_of (drop end text))
+    module _ (e : eqb (get_or first 0 0) 35 ≡ false) (n : Name) (named : n ≡ name_in first)
+        (found : Finding) (is_found : found ≡ fault_for n (fields_of rest)) where
+      a_command : line_in text ≡ named_line n (fields_of rest)
       unfolding line_of
-      a_command = by_fields ∙ ap line_of (one_found f some) ∙ rw (comment_found f some, e, ← named)
+      a_command = by_fields ∙ ap line_of (split.some some) ∙ rw (comment_is first some, e, ← named)
 
       pub a_fault : {fault : Fault} → found ≡ Err fault → line_in text ≡ faulty fault
       unfolding named_line
       a_fault is = a_command ∙ rw (← is_found, is)
 
-      pub without_fault : {u : Unit {0}} → found ≡ Ok u → line_in text ≡ command_for n (fields_of (drop end text))
+      pub without_fault : {u : Unit {0}} → found ≡ Ok u → line_in text ≡ command_for n (fields_of rest)
       unfolding named_line
       without_fault none = a_command ∙ rw (← is_found, none)
+
+-- a line that is passed over has no answer
+pub nothing_said : (text : List ℕ) {c : Chart} (out : List ℕ) → line_in text ≡ passed_over
+    → Answers c (line_in text) out out (record { chart = c; size = 0 })
+nothing_said text out passed = rw passed (record { chart = refl; text = puts_none _ _ })
 
 -- a line feed follows the reply to a command
 line_feed_lem : (c : Chart) (n : Name) (fields : List (List ℕ))

@@ -6,6 +6,7 @@ use Rattle.rules.specs.ReadForm.{reading}
 use Rattle.store.specs.Store.{IsRead}
 use Rattle.parsing.specs.Hex.{bytes_of_hex}
 use Rattle.rules.proofs.Buffer.{front_fits, front_counted, front_is}
+use Rattle.commands.proofs.Fields.{first_is}
 use Rattle.commands.proofs.Replying.{replies_read}
 use Rattle.commands.proofs.read.Goals as goal
 
@@ -17,7 +18,7 @@ slice_bounds-read-end c = front_counted c.put_bytes_of_hex-n.ensures
 
 pub returns : goal.returns
 returns c =
-    let bytes = front_is c.put_bytes_of_hex-n.ensures ∙ ap bytes_of_hex c.field_at-field.ensures.field in
+    let bytes = front_is c.put_bytes_of_hex-n.ensures ∙ ap bytes_of_hex (first_is _ c.split_field.ensures) in
     replies_read c.args.chart _ c.read-r.result
     (subst (λ (b : List ℕ). IsRead (reading b) c.read-r.result) bytes c.read-r.ensures)
     c.chart_kept.ensures (c.put_form_read-size.ensures _)
