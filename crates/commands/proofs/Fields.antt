@@ -6,19 +6,18 @@ use mathlib.Core.Bool.{Bool, true, not}
 use mathlib.Core.List.{List, [], ◌∷◌}
 use Prim.Native.Nat.{ℕ, zero, suc, ◌+◌, ◌-◌, ◌<◌, ◌≤◌}
 use native.Mathlib.Omega.{arith}
-use borrow.Author.Tests.{lt-ltb, le-ltb, ltb-true, ne_eqb}
+use borrow.Author.Tests.{lt-ltb, le-ltb, ne_eqb}
 use lib.ListN.{length, take, drop, get_or, length-drop}
 use lib.Seq.{take_all, drop-cons, drop-drop}
 use lib.Dec.{eqb, ltb}
 use lib.IntN.{ℤ}
-use Rattle.rules.specs.Choice.{choose}
 use Rattle.rules.proofs.Integers.{by_order}
 use Rattle.rules.proofs.Choice.{choose_ind}
 use Rattle.rules.proofs.Booleans.{zero_not_one}
 use Rattle.parsing.specs.Fields.{is_blank, in_front, starting_with, fields_of, between, IsFirstField, IsSplit}
 use Rattle.parsing.specs.Number.{number_in_field, kind_in_field, reading_in_field}
 use Rattle.commands.specs.Command.{first_field, first_number, is_comment}
-use Rattle.commands.specs.Answers.{fields_from, IsFieldAt, AreReadings}
+use Rattle.commands.specs.Answers.{IsFieldAt, AreReadings}
 
 -- the part of a line that begins at a byte, as a slice
 pub part_from : (line : List ℕ) (at : ℕ) → take (length line - at) (drop at line) ≡ drop at line

@@ -1,5 +1,5 @@
 -- What the functions of `commands` give.
-use Rattle.std.specs.Prelude.{◌≡◌, true, not, List, ℕ, ◌-◌, ◌≤◌, ◌<◌, length, drop, eqb, ltb, Result, Ok, Err}
+use Rattle.std.specs.Prelude.{◌≡◌, not, List, ℕ, ◌-◌, ◌≤◌, ◌<◌, length, drop, eqb, ltb, Result, Ok, Err}
 use Rattle.rules.specs.Choice.{choose}
 use Rattle.refusals.specs.declared.Refusal.{Refusal}
 use Rattle.chart.specs.declared.Chart.{Chart}

@@ -5,14 +5,13 @@ use mathlib.Core.Path.{◌≡◌, refl, ap}
 use mathlib.Core.Bool.{true, false, not}
 use mathlib.Core.List.{List, [], ◌∷◌}
 use Prim.Native.Nat.{ℕ, ◌<◌, ◌≤◌}
-use native.Mathlib.Omega.{arith}
 use borrow.Author.Tests.{le-leb, not-false}
 use lib.ListN.{length, get_or}
 use lib.Dec.{eqb, leb}
 use Rattle.rules.proofs.Choice.{choose_ind, require_ind}
 use Rattle.chart.specs.declared.Chart.{Chart}
 use Rattle.parsing.specs.Bytes.{same_bytes}
-use Rattle.parsing.specs.Fields.{fields_of, IsFirstField}
+use Rattle.parsing.specs.Fields.{fields_of, IsSplit}
 use Rattle.parsing.proofs.Tests.{same_equal}
 use Rattle.printing.specs.Ascii.{ascii}
 use Rattle.replies.specs.declared.Fault.TheVariants as faults
@@ -24,7 +23,7 @@ use Rattle.commands.specs.Command.{Finding, Line, passed_over, faulty, line_most
 use Rattle.commands.specs.Command.{unless_faulty, named_line, line_of, line_in, is_build}
 use Rattle.commands.specs.Reply.{chart_after_line}
 use Rattle.commands.proofs.Replying.{inquiry_leaves}
-use Rattle.commands.proofs.Fields.{none_found, one_found, comment_found}
+use Rattle.commands.proofs.Fields.{comment_is}
 use Rattle.outcomes.specs.Naming.{is_command, has_command, name_of, changes, may_change, is_command_name}
 
 -- ---- what the line is
@@ -77,16 +76,15 @@ builds text t = ap changes (named_build (first_field (fields_of text)) t)
 
 -- ---- what the functions find
 
-module _ {text : List ℕ} {start end : ℕ} (field : IsFirstField text start end) where
-  pub no_field : start ≡ end → false ≡ has_command text
+-- `first` and `rest` are split off a text
+module _ {text first rest : List ℕ} (split : IsSplit text first rest) where
+  pub no_field : length first ≡ 0 → false ≡ has_command text
   unfolding has_command
-  no_field e = rw (none_found field (omega arith))
+  no_field none = rw (split.none none).0
 
-  pub a_field : (start ≡ end → ⊥) → not (eqb (get_or text start 0) 35) ≡ has_command text
+  pub a_field : 0 < length first → not (eqb (get_or first 0 0) 35) ≡ has_command text
   unfolding has_command
-  a_field ne =
-      let some : start < end = omega (arith, field.ordered) in
-      rw (one_found field some, comment_found field some)
+  a_field some = rw (split.some some, comment_is first some)
 
 pub some_name : (n : Name) → (n ≡ name.Other → ⊥) → true ≡ is_command_name n
 some_name (name.Changes change) other = refl

@@ -3,7 +3,7 @@ ghost use Rattle.std.specs.Prelude.{◌≡◌};
 ghost use Rattle.outcomes.specs.Naming.{has_command, name_of, may_change, is_name};
 
 use commands::names::{Name, name_in};
-use parsing::fields::first_field;
+use parsing::fields::split_field;
 
 // Whether the command may change the chart.
 pub fn may_change(line: &[u8]) -> bool
@@ -32,21 +32,14 @@ pub fn is_name(word: &[u8]) -> bool
 pub fn has_command(line: &[u8]) -> bool
     ensures { result ≡ has_command line.now }
 {
-    let field = first_field(line);
-    let start = field.start;
-    let end = field.end;
-    if start == end {
-        return false;
-    }
-    line[start] != b'#'
+    let (first, _) = split_field(line);
+    !first.is_empty() && first[0] != b'#'
 }
 
 // The name in the first field.
 fn name_of(line: &[u8]) -> Name
     ensures { result ≡ name_of line.now }
 {
-    let field = first_field(line);
-    let start = field.start;
-    let end = field.end;
-    name_in(&line[start..end])
+    let (first, _) = split_field(line);
+    name_in(first)
 }

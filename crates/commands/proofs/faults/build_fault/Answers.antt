@@ -4,7 +4,7 @@ use Rattle.std.proofs.Common.{rules}
 use Rattle.std.specs.Prelude.{Err}
 use Rattle.commands.specs.Command.{build_fault, words_fault}
 use Rattle.commands.proofs.FirstFault.{kind_found}
-use Rattle.commands.proofs.Fields.{first_is, rest_is}
+use Rattle.commands.proofs.Fields.{rest_is}
 use Rattle.commands.proofs.faults.build_fault.Goals as goal
 
 pub returns-in_err-number_fault : goal.returns-in_err-number_fault

@@ -7,7 +7,7 @@ use lib.ListN.{length}
 use mir.Facts.{to_z-of_z}
 use native.Mathlib.Omega.{arith}
 use Rattle.std.proofs.Common.{rules, tests}
-use Rattle.commands.proofs.WordsPut.{words_start_lem, same_size, room_for_one, words_more, words_end}
+use Rattle.commands.proofs.WordsPut.{words_start_lem, room_for_one, words_more, words_end}
 use Rattle.commands.proofs.numbers.put_words.Goals as goal
 
 pub loop-field-init : goal.loop-field-init

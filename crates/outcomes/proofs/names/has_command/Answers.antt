@@ -1,9 +1,10 @@
 -- `outcomes::names::has_command` meets its contract.
+use Rattle.std.proofs.Common.{rules, tests}
 use Rattle.outcomes.proofs.Named.{no_field, a_field}
 use Rattle.outcomes.proofs.names.has_command.Goals as goal
 
-pub returns-then-start-end : goal.returns-then-start-end
-returns-then-start-end c = no_field c.first_field-field.ensures c.if-start-end.true
+pub returns-then-not-is_empty : goal.returns-then-not-is_empty
+returns-then-not-is_empty c = a_field c.split_field.ensures (search (rules, tests))
 
-pub returns : goal.returns
-returns c = a_field c.first_field-field.ensures c.if-start-end.false
+pub returns-else-not-is_empty : goal.returns-else-not-is_empty
+returns-else-not-is_empty c = rw c.if-not-is_empty.false (no_field c.split_field.ensures (search (rules, tests)))
