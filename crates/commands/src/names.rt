@@ -1,12 +1,9 @@
-// The names of the commands: one table of the texts, and one of what they name.
+// The names of the commands.
 ghost use Rattle.std.specs.Prelude.{◌≡◌};
 ghost use Rattle.commands.specs.Command.{name_in};
 
-use crate::numbers::field_at;
-use parsing::fields::same_bytes;
-
 // The commands that may change the chart.
-#[derive(Clone, Copy)]
+#[derive(Clone, Copy, Debug, PartialEq, Eq)]
 pub enum Change {
     Build,
     Post,
@@ -17,7 +14,7 @@ pub enum Change {
 }
 
 // The commands that do not change the chart.
-#[derive(Clone, Copy)]
+#[derive(Clone, Copy, Debug, PartialEq, Eq)]
 pub enum Inquiry {
     Word,
     Lines,
@@ -25,7 +22,7 @@ pub enum Inquiry {
     Show,
 }
 
-#[derive(Clone, Copy)]
+#[derive(Clone, Copy, Debug, PartialEq, Eq)]
 pub enum Name {
     Changes(Change),
     Asks(Inquiry),
@@ -33,37 +30,27 @@ pub enum Name {
     Other,
 }
 
-const TEXTS: [u8; 61] = *b"word build post reanalyse correct renew lines write read show";
-
-const NAMES: [Name; 10] = [
-    Name::Asks(Inquiry::Word),
-    Name::Changes(Change::Build),
-    Name::Changes(Change::Post),
-    Name::Changes(Change::Reanalyse),
-    Name::Changes(Change::Correct),
-    Name::Changes(Change::Renew),
-    Name::Asks(Inquiry::Lines),
-    Name::Asks(Inquiry::Write),
-    Name::Changes(Change::Read),
-    Name::Asks(Inquiry::Show),
+// The text of each command, and its name.
+const NAMES: [(&[u8], Name); 10] = [
+    (b"word", Name::Asks(Inquiry::Word)),
+    (b"build", Name::Changes(Change::Build)),
+    (b"post", Name::Changes(Change::Post)),
+    (b"reanalyse", Name::Changes(Change::Reanalyse)),
+    (b"correct", Name::Changes(Change::Correct)),
+    (b"renew", Name::Changes(Change::Renew)),
+    (b"lines", Name::Asks(Inquiry::Lines)),
+    (b"write", Name::Asks(Inquiry::Write)),
+    (b"read", Name::Changes(Change::Read)),
+    (b"show", Name::Asks(Inquiry::Show)),
 ];
 
 pub fn name_in(text: &[u8]) -> Name
     ensures { result ≡ name_in text.now }
 {
-    let names = NAMES;
-    let texts: &[u8] = &TEXTS;
-    let mut at: usize = 0;
-    let mut i: usize = 0;
-    while i < 10 {
-        let field = field_at(texts, at);
-        let start = field.start;
-        let end = field.end;
-        if same_bytes(text, &texts[start..end]) {
-            return names[i];
+    for &(word, name) in &NAMES {
+        if text == word {
+            return name;
         }
-        at = end;
-        i += 1;
     }
     Name::Other
 }
