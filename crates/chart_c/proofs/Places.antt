@@ -19,7 +19,7 @@ abbrev pub parts_of : {A : Type 0} → (A → Parts) → Outcome A → Outcome P
 parts_of {A} parts o = and_then o (λ (x : A). given (parts x))
 
 abbrev pub judged_parts : Judged → Parts
-judged_parts a = word_parts a.word a.verdict 0
+judged_parts a = word_parts a.word (verdict_number a.verdict) 0
 
 abbrev pub retested_parts : Retested → Parts
 retested_parts a = word_parts a.word 0 (flag a.passed)

@@ -61,7 +61,7 @@ pub fn post(
     let before = held_at_front(chart, *size)?;
     let judged = keep(before.post_sound(kind_passed(kind), a, b, c), chart, size)?;
     *word = judged.word;
-    *verdict = judged.verdict;
+    *verdict = judged.verdict.number();
     Ok(())
 }
 

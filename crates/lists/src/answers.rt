@@ -29,7 +29,7 @@ pub fn said_by_post(answer: Result<Judged, Refusal>) -> Said
         Ok(judged) => Said {
             number: 1,
             first: i64::from(judged.word),
-            second: i64::from(judged.verdict),
+            second: i64::from(judged.verdict.number()),
         },
         Err(refusal) => refused(refusal),
     }

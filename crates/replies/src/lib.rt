@@ -45,7 +45,7 @@ pub fn put_post(out: &mut [u8], answer: Result<Judged, Refusal>) -> usize
     match answer {
         Ok(judged) => {
             let at = put_word(out, judged.word);
-            put_named(out, at, b" verdict ", judged.verdict as u64)
+            put_named(out, at, b" verdict ", u64::from(judged.verdict.number()))
         }
         Err(refusal) => put_refusal(out, refusal),
     }
