@@ -25,7 +25,7 @@ use Rattle.chart.specs.Chart.{state_of, chart_of, with_status, fresh_chart}
 use Rattle.chart.specs.Rejection.{IsRejection}
 use Rattle.chart.specs.Tail.{rejection_of, tail_rejection}
 use Rattle.chart.specs.Soundness.{sound_chart, HasRoom, HasLast}
-use Rattle.chart.specs.Calls.{next_chart, answer_to, Gives, Does}
+use Rattle.chart.specs.Calls.{next_chart, answer_to, Gives, Does, word_unless}
 use Rattle.chart.proofs.State.{Given, chart_of-state, series_count_lem, some_series, fresh_is}
 
 -- ---- one step of the machine
@@ -83,6 +83,29 @@ module _ (c : Chart) (g : Given c) (call : Call) (kind : ℕ) (a b x : ℤ) (nex
   pub word_read : (w : ℤ) → given w ≡ word_for (state_of c).kind kind a b x → {d : Chart} → {answer : Answer} → Does (next w) d answer
       → Gives c call d answer
   word_read w h = call_performed c g call (formed_next (given w) h)
+
+-- what comes of the word formed, or of the refusal
+abbrev pub Reads : Chart → Call → (ℤ → Next) → Outcome ℤ → Type 0
+Reads c call next (given w) = Performs c call (next w)
+Reads c call next (outcome.refused n) = Gives c call c (refused n)
+
+-- the number of a refusal, and 0 for a word
+abbrev refusal_of : Outcome ℤ → ℕ
+refusal_of (given w) = 0
+refusal_of (outcome.refused n) = n
+
+module _ (c : Chart) (g : Given c) (call : Call) (kind : ℕ) (a b x : ℤ) (next : ℤ → Next)
+    (p : performed (state_of c) call ≡ if_formed (state_of c) (word_for (state_of c).kind kind a b x) next) where
+  -- n is the number of the refusal that comes first, or 0
+  pub reading : (n : ℕ) (f : Outcome ℤ) → n ≡ refusal_for (state_of c) call → f ≡ word_unless n (state_of c).kind kind a b x
+      → Reads c call next f
+  unfolding word_unless
+  reading zero (given w) e h = formed_next c g call kind a b x next p (sym e) (given w) h
+  reading zero (outcome.refused m) e h = reading_refused c g call kind a b x next p (sym e) m h
+  reading (suc n) (given w) e h = let number : 0 ≡ suc n = ap refusal_of h in absurd (omega arith)
+  reading (suc n) (outcome.refused m) e h =
+      let number : m ≡ suc n = ap refusal_of h in
+      rw number (call_declined c g call (suc n) e (λ z. absurd (omega arith)))
 
 -- ---- what the calls do
 

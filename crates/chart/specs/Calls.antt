@@ -1,7 +1,8 @@
 -- What a call on a chart gives: the machine's step on the state that the chart stands for. All four calls have the same shape.
-use Rattle.std.specs.Prelude.{◌≡◌, List, [], ◌∷◌, Result, Ok, Err}
+use Rattle.std.specs.Prelude.{◌≡◌, ℕ, ℤ, List, [], ◌∷◌, Result, Ok, Err}
+use Rattle.rules.specs.Outcome.{Outcome, unless_number}
 use Rattle.rules.specs.Choice.{choose}
-use Rattle.rules.specs.Machine.{Call, Answer, Next, judged, reanalysed, corrected, renewed, refused, step}
+use Rattle.rules.specs.Machine.{Call, Answer, Next, judged, reanalysed, corrected, renewed, refused, word_for, step}
 use Rattle.refusals.specs.Refusal.{refusal_number}
 use Rattle.refusals.specs.declared.Refusal.{Refusal}
 use Rattle.judging.specs.Verdicts.{verdict_number}
@@ -32,6 +33,10 @@ pub record Gives (c : Chart) (call : Call) (next : Chart) (answer : Answer) : Ty
 pub record Does (next : Next) (c : Chart) (answer : Answer) : Type 0 where
   pub chart : c ≡ chart_of next.state
   pub says : answer ≡ next.answer
+
+-- a number that is not 0 refuses the call. If it is 0, the call's reading decides
+unfoldable pub word_unless : ℕ → ℕ → ℕ → ℤ → ℤ → ℤ → Outcome ℤ
+word_unless number chart_kind kind a b c = unless_number number (word_for chart_kind kind a b c)
 
 -- ---- what the cases of each call's answer say
 
