@@ -1,23 +1,20 @@
--- Laws of building into a lent buffer: a chart that was built is sound, and what is left of it.
-use mathlib.Core.Path.{◌≡◌, refl, sym, ap, ◌∙◌}
+-- Laws of building into a lent buffer: what is left of it.
+use mathlib.Core.Path.{◌≡◌, refl, ap, ◌∙◌}
 use mathlib.Core.List.{List}
 use Prim.Native.Nat.{ℕ}
 use lib.IntN.{ℤ}
 use Rattle.std.specs.Prelude.{Result, Ok, Err}
 use Rattle.rules.specs.Outcome.{Outcome}
 use Rattle.rules.specs.Building.{building}
-use Rattle.rules.proofs.Soundness.{built_sound}
 use Rattle.refusals.specs.Refusal.{result_says}
 use Rattle.refusals.specs.declared.Refusal.{Refusal}
 use Rattle.chart.specs.declared.Chart.{Chart}
 use Rattle.chart.specs.declared.Called.{Called}
 use Rattle.chart.specs.declared.Counts.{Counts}
-use Rattle.chart.specs.Chart.{state_of, build_says, chart_after, Builds}
-use Rattle.chart.proofs.Runs.{sound_chart_of}
+use Rattle.chart.specs.Chart.{state_of, build_says, Builds}
 use Rattle.chart_c.specs.Answers.{Parts}
 use Rattle.chart_c.specs.Forms.{kept_in, KeepsChart}
-use Rattle.chart_c.specs.Calls.{built_outcome, kind_passed, Leaves, SoundIfDone}
-use Rattle.chart.specs.Soundness.{sound_chart}
+use Rattle.chart_c.specs.Calls.{built_outcome, kind_passed, Leaves}
 use Rattle.chart_c.proofs.Kept.{kept_as}
 use Rattle.chart_c.proofs.Places.{parts_of, counted_parts}
 use Rattle.chart_c.proofs.SameKind.{same_building}
@@ -30,17 +27,11 @@ kept_built buffer c (Ok counts) = refl
 kept_built buffer c (Err r) = refl
 
 module _ (kind : ℕ) {k : ℕ} {words : List ℤ} (passed : k ≡ kind_passed kind) {r : Called Counts} (is : Builds k words r) where
-  pub sound_if_built : SoundIfDone r
-  unfolding build_says chart_after
-  sound_if_built counts e =
-      let built = sym is.says ∙ ap (build_says r.chart) e in
-      ap sound_chart (is.chart ∙ ap chart_after built) ∙ sound_chart_of (state_of r.chart) (built_sound k words _ built)
-
-  pub build_leaves : {buffer after : List ℕ} {size size' : ℕ} {back : Result Counts Refusal}
-      → KeepsChart (kept_in buffer (state_of r.chart) (result_says r.answer)) buffer after size size' back
+  pub build_leaves : {buffer after : List ℕ} {size size' : ℕ} {back : Result Counts Refusal} (a : Result Counts Refusal) → r.answer ≡ a
+      → KeepsChart (kept_in buffer (state_of r.chart) (result_says a)) buffer after size size' back
       → (Places : Outcome Parts → Type 0) → Places (parts_of counted_parts (result_says back))
       → Leaves (built_outcome buffer (building kind words)) buffer after size size' Places
-  build_leaves {buffer} kept Places p =
-      let left = kept_as counted_parts buffer (state_of r.chart) (result_says r.answer) kept Places p in
+  build_leaves {buffer} a same kept Places p =
+      let left = kept_as counted_parts buffer (state_of r.chart) (result_says a) kept Places p in
       let kinds = ap (λ (n : ℕ). building n words) passed ∙ same_building kind words in
-      rw (← kinds, ← is.says, ← kept_built buffer r.chart r.answer) left
+      rw (← kinds, ← is.says, same, ← kept_built buffer r.chart a) left

@@ -22,9 +22,8 @@ use Rattle.rules.specs.ChartLines.{lines_of, beyond_each}
 use Rattle.rules.proofs.Booleans.{by_test, both}
 use Rattle.refusals.specs.Refusal.{refusal_number}
 use Rattle.refusals.specs.declared.Refusal.{Refusal}
-use Rattle.chart.specs.declared.Chart.{Chart}
+use Rattle.chart.specs.declared.sound.SoundChart.{SoundChart}
 use Rattle.chart.specs.Chart.{state_of}
-use Rattle.chart.specs.Soundness.{sound_chart}
 use Rattle.store.specs.HeldChart.{IsHeld}
 use Rattle.chart_c.specs.Lent.{answered_number, lent_after, flag}
 use Rattle.chart_c.specs.Plotting.{chart_in, doubles_of, doubles_into, drawn, Draws, is_word, flags_of, beyond_into}
@@ -117,35 +116,32 @@ fits_word (negsuc n) h = rw (le-leb n 32767 (omega arith))
 
 -- ---- the chart that the bytes hold
 
-module _ (bytes : List ℕ) {c : Chart} (is : IsHeld (bytes_start bytes) (Ok c)) where
-  taken : Taken (bytes_start bytes) c
+module _ (bytes : List ℕ) {c : SoundChart} (is : IsHeld (bytes_start bytes) (Ok c)) where
+  taken : Taken (bytes_start bytes) c.chart
   taken = held_taken (bytes_start bytes) (from_bytes bytes) is
 
-  pub read_sound : sound_chart c ≡ true
-  read_sound = taken.chart_sound
-
-  pub drawn_is : (before : List Float) (lines : rules.Lines) → lines ≡ lines_of (limits_for (state_of c))
+  pub drawn_is : (before : List Float) (lines : rules.Lines) → lines ≡ lines_of (limits_for (state_of c.chart))
       → drawn bytes before ≡ doubles_into before (doubles_of lines)
   unfolding drawn chart_in
   drawn_is before lines e =
-      let state = same_state (bytes_start bytes) c taken in
+      let state = same_state (bytes_start bytes) c.chart taken in
       let own : lines ≡ lines_of (limits_for taken.state) = e ∙ ap (λ (s : State). lines_of (limits_for s)) state in
-      then_taken (bytes_start bytes) c taken (λ (s : State). doubles_into before (doubles_of (lines_of (limits_for s))))
+      then_taken (bytes_start bytes) c.chart taken (λ (s : State). doubles_into before (doubles_of (lines_of (limits_for s))))
       ∙ ap (λ (l : rules.Lines). doubles_into before (doubles_of l)) (sym own)
 
   module _ (w : ℤ) (before : List ℕ) where
     compared_is : compared bytes w before ≡ compared_into before w taken.state
     unfolding compared chart_in
-    compared_is = then_taken (bytes_start bytes) c taken (compared_into before w)
+    compared_is = then_taken (bytes_start bytes) c.chart taken (compared_into before w)
 
     pub no_word : (SFits w16 w → ⊥) → compared bytes w before ≡ refused 7
     unfolding compared_into
     no_word other = by_test (is_word w) (λ f. absurd (other (word_fits w f))) (λ f. rw (compared_is, f))
 
-    pub word_compared : SFits w16 w → (b : rules.BeyondEach) → b ≡ beyond_each (limits_for (state_of c)) w
+    pub word_compared : SFits w16 w → (b : rules.BeyondEach) → b ≡ beyond_each (limits_for (state_of c.chart)) w
         → compared bytes w before ≡ beyond_into before b
     unfolding compared_into beyond_into
     word_compared fits b e =
-        let state = same_state (bytes_start bytes) c taken in
+        let state = same_state (bytes_start bytes) c.chart taken in
         let own : b ≡ beyond_each (limits_for taken.state) w = e ∙ ap (λ (s : State). beyond_each (limits_for s) w) state in
         rw (compared_is, fits_word w fits, own)

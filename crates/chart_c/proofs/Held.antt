@@ -14,13 +14,14 @@ use Rattle.rules.specs.ReadForm.{reading}
 use Rattle.rules.specs.Lists.{bytes_start}
 use Rattle.rules.proofs.Outcome.{same_given, same_refused, given_not_refused}
 use Rattle.rules.proofs.Lists.{start_of-reading}
-use Rattle.refusals.specs.Refusal.{refusal_number, result_says}
+use Rattle.refusals.specs.Refusal.{refusal_number}
 use Rattle.refusals.specs.Refusal as refusal
 use Rattle.refusals.specs.declared.Refusal.{Refusal}
 use Rattle.chart.specs.declared.Chart.{Chart}
 use Rattle.chart.specs.declared.Called.{Called}
 use Rattle.chart.specs.Chart.{state_of, chart_of}
-use Rattle.chart.specs.Soundness.{sound_chart}
+use Rattle.chart.specs.declared.sound.SoundChart.{SoundChart}
+use Rattle.chart.specs.Checked.{chart_says}
 use Rattle.chart.proofs.State.{state_of_chart}
 use Rattle.chart.proofs.Runs.{sound_chart_of}
 use Rattle.store.specs.Store.{read_says, IsRead}
@@ -46,16 +47,15 @@ from_front buffer size = front_by (leb size (length buffer)) (bytes_start (take 
 
 -- ---- what a read gives
 
--- a chart: there is a start, and its chart is sound
+-- a chart: there is a start
 pub record Taken (a : Outcome State) (c : Chart) : Type 0 where
   pub state : State
   pub is : a ≡ given state
   pub state-sound : sound state ≡ true
   pub chart : c ≡ chart_of state
-  pub chart_sound : sound_chart c ≡ true
 
-pub held_taken : (a : Outcome State) → StartsSound a → {c : Chart} → IsHeld a (Ok c) → Taken a c
-unfolding chart_of_start result_says
+pub held_taken : (a : Outcome State) → StartsSound a → {c : SoundChart} → IsHeld a (Ok c) → Taken a c.chart
+unfolding chart_of_start chart_says
 held_taken (given s) start is =
     let t = start s refl in
     let same = same_given is.says in
@@ -64,14 +64,13 @@ held_taken (given s) start is =
       is = refl;
       state-sound = t;
       chart = same;
-      chart_sound = ap sound_chart same ∙ sound_chart_of s t;
     }
 held_taken (refused n) start is = given_not_refused is.says
 
 -- a refusal: the call is refused with it
 pub not_held : {B : Type 0} (a : Outcome State) (r : Refusal) → IsHeld a (Err r) → (next : State → Outcome B)
     → and_then a next ≡ refused (refusal_number r)
-unfolding chart_of_start result_says
+unfolding chart_of_start chart_says
 not_held (given s) r is next = given_not_refused (sym is.says)
 not_held (refused n) r is next = ap refused (sym (same_refused is.says))
 
@@ -84,6 +83,13 @@ number_says c (Err r) = refl
 pub number_read : (bytes : List ℕ) (r : Called (Unit {0})) → IsRead (reading bytes) r
     → refusal.answered_number r.answer ≡ answered_number (bytes_start bytes)
 number_read bytes r is = number_says r.chart r.answer ∙ ap answered_number is.says
+-- its number is the one that is answered
+pub number_held : (a : Outcome State) (h : Result SoundChart Refusal) → IsHeld a h → refusal.answered_number h ≡ answered_number a
+unfolding chart_of_start chart_says answered_number refusal.answered_number
+number_held (given s) (Ok c) is = refl
+number_held (given s) (Err r) is = given_not_refused (sym is.says)
+number_held (refused n) (Ok c) is = given_not_refused is.says
+number_held (refused n) (Err r) is = same_refused is.says
 
 -- what follows a start
 pub then_taken : {B : Type 0} (a : Outcome State) (c : Chart) (t : Taken a c) (next : State → Outcome B)

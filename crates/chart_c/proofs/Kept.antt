@@ -15,17 +15,17 @@ use Rattle.rules.specs.Soundness.{sound}
 use Rattle.rules.specs.StoredForm.{stored_form, form_fits, writing, buffer_after}
 use Rattle.rules.specs.Machine.{Call, Answer, Next, step, post, reanalysis}
 use Rattle.rules.specs.Machine as machine
-use Rattle.rules.proofs.Machine.{step-sound}
 use Rattle.rules.proofs.Outcome.{given_not_refused}
 use Rattle.refusals.specs.Refusal.{refusal_number, result_says}
 use Rattle.refusals.specs.declared.Refusal.{Refusal}
 use Rattle.chart.specs.declared.Chart.{Chart}
+use Rattle.chart.specs.declared.sound.SoundChart.{SoundChart}
 use Rattle.chart.specs.Chart.{state_of, chart_of}
 use Rattle.chart.specs.Soundness.{sound_chart}
 use Rattle.chart.specs.Calls.{next_chart, answer_to, Gives}
 use Rattle.chart.proofs.State.{state_of_chart}
 use Rattle.chart.proofs.SoundCharts.{sound_chart_facts}
-use Rattle.chart.proofs.Runs.{next_is, answer_is, sound_chart_of}
+use Rattle.chart.proofs.Runs.{next_is, answer_is}
 use Rattle.store.specs.HeldChart.{IsHeld}
 use Rattle.store.specs.Store.{answer_to_write, buffer_after_write, Writes}
 use Rattle.chart_c.specs.Lent.{lent_after}
@@ -156,6 +156,10 @@ module _ {c next : Chart} {said : Answer} where
 
 -- ---- a call on the chart in a buffer
 
+module _ (buffer : List ℕ) (size : ℕ) {c : SoundChart} (held : IsHeld (front_start buffer size) (Ok c)) where
+  front_taken : Taken (front_start buffer size) c.chart
+  front_taken = held_taken (front_start buffer size) (from_front buffer size) held
+
 module _ (buffer : List ℕ) (size : ℕ) (call : Call) where
   abbrev stepped : State → Outcome (Answered Parts)
   stepped s = kept_in buffer (step s call).state (answer_outcome (step s call).answer)
@@ -167,17 +171,13 @@ module _ (buffer : List ℕ) (size : ℕ) (call : Call) where
   call_refused r is =
       leaves_declined (called buffer size call) buffer size (refusal_number r) (not_held (front_start buffer size) r is stepped)
 
-  module _ {c : Chart} (held : IsHeld (front_start buffer size) (Ok c)) {next : Chart} {said : Answer}
-      (gives : Gives c call next said) where
-    taken : Taken (front_start buffer size) c
+  module _ {c : SoundChart} (held : IsHeld (front_start buffer size) (Ok c)) {next : Chart} {said : Answer}
+      (gives : Gives c.chart call next said) where
+    taken : Taken (front_start buffer size) c.chart
     taken = front_taken buffer size held
 
     chart_is : next ≡ chart_of (step taken.state call).state
     chart_is = gives.chart ∙ (ap (λ (x : Chart). next_chart x call) taken.chart ∙ next_is taken.state call taken.state-sound)
-
-    -- the chart that comes back is sound
-    pub next_sound : sound_chart next ≡ true
-    next_sound = ap sound_chart chart_is ∙ sound_chart_of (step taken.state call).state (step-sound taken.state call taken.state-sound)
 
     -- its state and the answer are the machine's
     called_is : kept_in buffer (state_of next) (answer_outcome said) ≡ called buffer size call
@@ -186,7 +186,7 @@ module _ (buffer : List ℕ) (size : ℕ) (call : Call) where
         let state = ap state_of chart_is ∙ state_of_chart (step taken.state call).state in
         let own = ap (λ (x : Chart). answer_to x call) taken.chart ∙ answer_is taken.state call taken.state-sound in
         let says = ap answer_outcome (gives.says ∙ own) in
-        (λ i. kept_in buffer (state i) (says i)) ∙ sym (then_taken (front_start buffer size) c taken stepped)
+        (λ i. kept_in buffer (state i) (says i)) ∙ sym (then_taken (front_start buffer size) c.chart taken stepped)
 
     -- the chart is kept, and the lent places hold the parts that the call answers
     pub call_leaves : {A : Type 0} (parts : A → Parts) (answer : Result A Refusal) {back : Result A Refusal} {after : List ℕ} {size' : ℕ}

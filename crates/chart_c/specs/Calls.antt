@@ -1,13 +1,11 @@
 -- A word alone, building, and the four calls on a chart.
-use Rattle.std.specs.Prelude.{◌≡◌, true, List, ℕ, leb, ℤ, Ok}
+use Rattle.std.specs.Prelude.{◌≡◌, List, ℕ, leb, ℤ}
 use Rattle.rules.specs.Outcome.{Outcome, and_then}
 use Rattle.rules.specs.Choice.{choose}
 use Rattle.rules.specs.State.{State}
 use Rattle.rules.specs.Building.{BuiltState}
 use Rattle.rules.specs.Machine as machine
 use Rattle.rules.specs.Machine.{step}
-use Rattle.chart.specs.declared.Called.{Called}
-use Rattle.chart.specs.Soundness.{sound_chart}
 use Rattle.chart_c.specs.Lent.{answered_number, lent_after}
 use Rattle.chart_c.specs.Answers.{Parts, count_parts, answer_outcome}
 use Rattle.chart_c.specs.Forms.{Answered, front_start, if_room, kept_in, LeavesChart, parts_in}
@@ -42,7 +40,3 @@ pub record Leaves (o : Outcome (Answered Parts)) (before after : List ℕ) (size
 -- a number of sixteen bits stays as it is. A larger number is no chart's kind; it becomes 0, which is no chart's kind either
 unfoldable pub kind_passed : ℕ → ℕ
 kind_passed n = choose (leb n 65535) n 0
-
--- the chart of a call that was not refused is sound
-abbrev pub SoundIfDone : {A : Type 0} → Called A → Type 0
-SoundIfDone {A} r = (answer : A) → r.answer ≡ Ok answer → sound_chart r.chart ≡ true

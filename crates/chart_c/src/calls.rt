@@ -10,10 +10,11 @@ ghost use Rattle.chart.specs.Chart.{state_of};
 ghost use Rattle.chart_c.specs.Lent as lent;
 ghost use Rattle.chart_c.specs.Answers.{Judges, Reanalyses, Counts};
 ghost use Rattle.chart_c.specs.Forms.{kept_in, KeepsChart};
-ghost use Rattle.chart_c.specs.Calls.{FormsWord, built_outcome, called, Leaves, SoundIfDone};
+ghost use Rattle.chart_c.specs.Calls.{FormsWord, built_outcome, called, Leaves};
 
 use crate::forms::{held_at_front, kind_passed};
-use chart::{Called, Chart};
+use chart::Chart;
+use chart::sound::SoundChart;
 use refusals::Refusal;
 use store::write_sound;
 
@@ -38,7 +39,9 @@ pub fn build(
         chart.old chart.new size.old size.new
         (λ p. Counts p rounds.old rounds.new removed.old removed.new (answered_number result)) }
 {
-    let counts = keep(Chart::build(kind_passed(kind), words), chart, size)?;
+    let built = Chart::build(kind_passed(kind), words);
+    let made = built.answer?;
+    let counts = keep(SoundChart { chart: built.chart }, Ok(made), chart, size)?;
     *rounds = counts.rounds;
     *removed = counts.removed;
     Ok(())
@@ -58,8 +61,9 @@ pub fn post(
         chart.old chart.new size.old size.new
         (λ p. Judges p word.old word.new verdict.old verdict.new (answered_number result)) }
 {
-    let before = held_at_front(chart, *size)?;
-    let judged = keep(before.post_sound(kind_passed(kind), a, b, c), chart, size)?;
+    let mut held = held_at_front(chart, *size)?;
+    let answer = held.post(kind_passed(kind), a, b, c);
+    let judged = keep(held, answer, chart, size)?;
     *word = judged.word;
     *verdict = judged.verdict.number();
     Ok(())
@@ -80,12 +84,9 @@ pub fn reanalyse(
         chart.old chart.new size.old size.new
         (λ p. Reanalyses p word.old word.new passed.old passed.new (answered_number result)) }
 {
-    let before = held_at_front(chart, *size)?;
-    let retested = keep(
-        before.reanalyse_sound(kind_passed(kind), a, b, c),
-        chart,
-        size,
-    )?;
+    let mut held = held_at_front(chart, *size)?;
+    let answer = held.reanalyse(kind_passed(kind), a, b, c);
+    let retested = keep(held, answer, chart, size)?;
     *word = retested.word;
     *passed = u8::from(retested.passed);
     Ok(())
@@ -96,8 +97,9 @@ pub fn correct(chart: &mut [u8], size: &mut usize) -> Result<(), Refusal>
         chart.old chart.new size.old size.new
         (λ p. answered_number result ≡ lent.answered_number p) }
 {
-    let before = held_at_front(chart, *size)?;
-    keep(before.correct_sound(), chart, size)
+    let mut held = held_at_front(chart, *size)?;
+    let answer = held.correct();
+    keep(held, answer, chart, size)
 }
 
 pub fn renew(
@@ -110,22 +112,27 @@ pub fn renew(
         chart.old chart.new size.old size.new
         (λ p. Counts p rounds.old rounds.new removed.old removed.new (answered_number result)) }
 {
-    let before = held_at_front(chart, *size)?;
-    let counts = keep(before.renew_sound(), chart, size)?;
+    let mut held = held_at_front(chart, *size)?;
+    let answer = held.renew();
+    let counts = keep(held, answer, chart, size)?;
     *rounds = counts.rounds;
     *removed = counts.removed;
     Ok(())
 }
 
-// Keeps the chart of a call that was not refused: its form goes to the front of the buffer, and the form's length into `size`. If there is
-// no room, the call is refused with 15.
-fn keep<A: Copy>(called: Called<A>, chart: &mut [u8], size: &mut usize) -> Result<A, Refusal>
-    requires { SoundIfDone called }
-    ensures { KeepsChart (kept_in chart.old (state_of called.chart) (result_says called.answer))
+// Keeps the chart after a call that was not refused: its form goes to the front of the buffer, and the form's length into `size`. If there
+// is no room, the call is refused with 15.
+fn keep<A: Copy>(
+    after: SoundChart,
+    answer: Result<A, Refusal>,
+    chart: &mut [u8],
+    size: &mut usize,
+) -> Result<A, Refusal>
+    ensures { KeepsChart (kept_in chart.old (state_of after.chart) (result_says answer))
         chart.old chart.new size.old size.new result }
 {
-    let answer = called.answer?;
-    let n = write_sound(called.chart, chart)?;
+    let answered = answer?;
+    let n = write_sound(after, chart)?;
     *size = n;
-    Ok(answer)
+    Ok(answered)
 }

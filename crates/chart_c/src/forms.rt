@@ -4,12 +4,12 @@ ghost use Rattle.store.specs.HeldChart.{IsHeld};
 ghost use Rattle.chart_c.specs.Calls.{kind_passed};
 ghost use Rattle.chart_c.specs.Forms.{front_start};
 
-use chart::Chart;
+use chart::sound::SoundChart;
 use refusals::Refusal;
 use store::held::held_in;
 
 // The chart whose stored form is the first `size` bytes of a buffer.
-pub fn held_at_front(buffer: &[u8], size: usize) -> Result<Chart, Refusal>
+pub fn held_at_front(buffer: &[u8], size: usize) -> Result<SoundChart, Refusal>
     ensures { IsHeld (front_start buffer.now size) result }
 {
     if buffer.len() < size {

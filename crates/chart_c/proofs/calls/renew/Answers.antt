@@ -3,31 +3,23 @@ use mathlib.Core.Path.{◌≡◌, refl}
 use borrow.Author.Rules.{rules}
 use Rattle.std.specs.Prelude.{Err}
 use Rattle.refusals.specs.Refusal.{answered_number, result_says}
-use Rattle.chart_c.proofs.Kept.{call_refused, front_sound, next_sound, call_leaves}
+use Rattle.chart_c.proofs.Kept.{call_refused, call_leaves}
 use Rattle.chart_c.proofs.Places.{filled, not_filled, counted_parts, renewal_parts}
 use Rattle.chart_c.proofs.calls.renew.Goals as goal
 
-pub returns-in_err-before : goal.returns-in_err-before
+pub returns-in_err-held : goal.returns-in_err-held
 unfolding answered_number result_says
-returns-in_err-before c =
-    let same : c.from_residual.result ≡ Err c.in_err-before.field-0.0 = search rules in
-    rw same (call_refused _ _ _ _ c.in_err-before.ensures _ not_filled)
-
-pub renew_sound-requires : goal.renew_sound-requires
-renew_sound-requires c = front_sound _ _ c.in_ok-before.ensures
-
-pub keep-requires : goal.keep-requires
-keep-requires c = λ answer done. next_sound _ _ _ c.in_ok-before.ensures c.renew_sound.ensures
+returns-in_err-held c =
+    let same : c.from_residual.result ≡ Err c.in_err-held.field-0.0 = search rules in
+    rw same (call_refused _ _ _ _ c.in_err-held.ensures _ not_filled)
 
 pub returns-in_err-counts : goal.returns-in_err-counts
 unfolding answered_number result_says
 returns-in_err-counts c =
     let same : c.from_residual-in_err-counts.result ≡ Err c.in_err-counts.field-0.0 = search rules in
-    let gives = c.renew_sound.ensures in
-    rw same (call_leaves _ _ _ c.in_ok-before.ensures gives counted_parts _ (renewal_parts _) c.in_err-counts.ensures _ not_filled)
+    rw same (call_leaves _ _ _ c.in_ok-held.ensures c.renew-answer.ensures counted_parts _ (renewal_parts _) c.in_err-counts.ensures _ not_filled)
 
 pub returns : goal.returns
 unfolding answered_number result_says
 returns c =
-    let gives = c.renew_sound.ensures in
-    call_leaves _ _ _ c.in_ok-before.ensures gives counted_parts _ (renewal_parts _) c.in_ok-counts.ensures _ (filled refl refl)
+    call_leaves _ _ _ c.in_ok-held.ensures c.renew-answer.ensures counted_parts _ (renewal_parts _) c.in_ok-counts.ensures _ (filled refl refl)

@@ -2,13 +2,15 @@
 use Prim.Native.Nat.{◌≤◌}
 use borrow.Author.Tests.{le-leb, lt-leb}
 use lib.ListN.{length}
-use Rattle.refusals.specs.Refusal.{refusal_number, result_says}
+use lib.Seq.{length-take-le}
+use Rattle.refusals.specs.Refusal.{refusal_number}
+use Rattle.chart.specs.Checked.{chart_says}
 use Rattle.store.specs.HeldChart.{chart_of_start}
 use Rattle.chart_c.specs.Forms.{front_start}
 use Rattle.chart_c.proofs.forms.held_at_front.Goals as goal
 
 pub returns-then-buffer-size : goal.returns-then-buffer-size
-unfolding front_start chart_of_start refusal_number result_says
+unfolding front_start chart_of_start refusal_number chart_says
 returns-then-buffer-size c = record { says = rw (lt-leb c.args.size (length c.args.buffer.now) c.if-buffer-size.true) }
 
 pub returns : goal.returns

@@ -4,7 +4,7 @@ use borrow.Author.Rules.{rules}
 use mir.Facts.{to_z-of_z}
 use Rattle.std.specs.Prelude.{Err}
 use Rattle.refusals.specs.Refusal.{answered_number, refusal_number}
-use Rattle.chart_c.proofs.Drawn.{not_compared, compared_refused, read_sound, no_word, word_compared}
+use Rattle.chart_c.proofs.Drawn.{not_compared, compared_refused, no_word, word_compared}
 use Rattle.chart_c.proofs.plotting.compare.Goals as goal
 
 pub returns-in_err-held : goal.returns-in_err-held
@@ -18,9 +18,6 @@ unfolding answered_number refusal_number
 returns-in_default c =
     let other = rw (to_z-of_z c.ranges.number) at c.in_default.ensures in
     not_compared _ 7 (no_word _ c.in_ok-held.ensures _ _ other) _
-
-pub against_lines_sound-requires : goal.against_lines_sound-requires
-against_lines_sound-requires c = read_sound _ c.in_ok-held.ensures
 
 pub returns : goal.returns
 returns c =
