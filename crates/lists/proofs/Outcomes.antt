@@ -16,13 +16,14 @@ use Rattle.rules.proofs.Booleans.{by_test}
 use Rattle.rules.proofs.Soundness.{sound_facts}
 use Rattle.rules.proofs.Floor.{Starts}
 use Rattle.rules.proofs.Outcome.{same_given, same_refused, given_not_refused}
-use Rattle.refusals.specs.Refusal.{result_says}
 use Rattle.refusals.specs.declared.Refusal.{Refusal}
 use Rattle.chart.specs.declared.Chart.{Chart}
 use Rattle.chart.specs.Chart.{state_of, chart_of, fresh_chart, zero_chart}
 use Rattle.chart.specs.Soundness.{sound_chart}
 use Rattle.chart.specs.Calls.{answers_to}
 use Rattle.chart.proofs.SoundCharts.{sound_chart_facts}
+use Rattle.chart.specs.Checked.{chart_says}
+use Rattle.chart.specs.declared.sound.SoundChart.{SoundChart}
 use Rattle.store.specs.HeldChart.{chart_of_start, IsHeld}
 use Rattle.lines.specs.declared.Lines.{Lines}
 use Rattle.lines.specs.Lines.{lines_answer_says, answer_to_lines}
@@ -50,7 +51,7 @@ pub fits_room : (calls room : List ℤ) → are_calls calls ≡ true → length 
     → answers_fit calls room ≡ true
 fits_room calls room listed enough = room_is calls room listed ∙ le-leb (length calls / call_size) (length room / answer_size) enough
 
-module _ (start : Result Chart Refusal) (calls room : List ℤ) where
+module _ (start : Result SoundChart Refusal) (calls room : List ℤ) where
   pub without_calls : are_calls calls ≡ false → TriesFrom start calls room room (Err list.NotCalls)
   unfolding outcome_of list_refusal_says
   without_calls h = rw h (refl, refl)
@@ -68,7 +69,7 @@ module _ (start : Result Chart Refusal) (calls room : List ℤ) where
       unfolding outcome_of list_refusal_says
       without_start e = rw (listed, fits_room calls room listed enough, e) (refl, refl)
 
-      pub with_all : {c last : Chart} {out : List ℤ} → start ≡ Ok c → RunsCalls c calls room out last
+      pub with_all : {c : SoundChart} {last : Chart} {out : List ℤ} → start ≡ Ok c → RunsCalls c.chart calls room out last
           → TriesFrom start calls room out (Ok last)
       unfolding outcome_of
       with_all e ran = rw (listed, fits_room calls room listed enough, e) ran
@@ -122,11 +123,11 @@ module _ (calls room out : List ℤ) (r : Run) (floor : ℕ) where
       }
 
   -- the start is what building or reading gave: a state that keeps the floor, or a refusal
-  module _ (start : Outcome State) (p : Result Chart Refusal) (starts : (s : State) → start ≡ given s → Starts floor s)
+  module _ (start : Outcome State) (p : Result SoundChart Refusal) (starts : (s : State) → start ≡ given s → Starts floor s)
       (is : IsHeld start p) where
-    from_start : (a : Outcome State) → start ≡ a → (q : Result Chart Refusal) → p ≡ q → RunGivesOn (start_on q) calls room out r
+    from_start : (a : Outcome State) → start ≡ a → (q : Result SoundChart Refusal) → p ≡ q → RunGivesOn (start_on q) calls room out r
         → RunGives floor (machine_start a) calls room out r
-    unfolding machine_start chart_of_start result_says
+    unfolding machine_start chart_of_start chart_says
     from_start (given s) e (Ok c) f on = let own = rw (e, f) at is.says in ran_from s (starts s e) (rw (same_given own) at on)
     from_start (given s) e (Err refusal) f on = let own = rw (e, f) at is.says in given_not_refused (sym own)
     from_start (refused n) e (Ok c) f on = let own = rw (e, f) at is.says in given_not_refused own

@@ -11,6 +11,7 @@ use Rattle.rules.specs.Lists as rules
 use Rattle.refusals.specs.Refusal.{refusal_number}
 use Rattle.refusals.specs.declared.Refusal.{Refusal}
 use Rattle.chart.specs.declared.Chart.{Chart}
+use Rattle.chart.specs.declared.sound.SoundChart.{SoundChart}
 use Rattle.chart.specs.Chart.{zero_chart}
 use Rattle.chart.specs.Calls.{next_chart, answer_to, chart_after_calls, answers_to}
 use Rattle.lines.specs.Lines.{lines_answer_says, answer_to_lines}
@@ -97,15 +98,15 @@ pub record RanOn (c : Chart) (calls before after : List ℤ) (r : Run) : Type 0 
   pub buffer : after ≡ at_front (all_numbers_of (answers_to c (calls_in calls))) before
   pub lines : lines_answer_says r.lines ≡ answer_to_lines r.chart
 
-abbrev pub start_on : Result Chart Refusal → ListOutcome Chart
-start_on (Ok c) = runs c
+abbrev pub start_on : Result SoundChart Refusal → ListOutcome Chart
+start_on (Ok c) = runs c.chart
 start_on (Err r) = declines (start_refused (refusal_number r))
 
 abbrev pub RunGivesOn : ListOutcome Chart → (calls before after : List ℤ) → Run → Type 0
 RunGivesOn (runs c) calls before after r = RanOn c calls before after r
 RunGivesOn (declines answer) calls before after r = Declined answer before after r
 
-abbrev pub RunsFrom : Result Chart Refusal → (calls before after : List ℤ) → Run → Type 0
+abbrev pub RunsFrom : Result SoundChart Refusal → (calls before after : List ℤ) → Run → Type 0
 RunsFrom start calls before after r = RunGivesOn (outcome_of (start_on start) calls before) calls before after r
 
 -- the chart after the calls, and their answers
@@ -120,7 +121,7 @@ TriesOn (runs c) calls before after (Err e) = ⊥
 TriesOn (declines answer) calls before after (Ok last) = ⊥
 TriesOn (declines answer) calls before after (Err e) = (list_refusal_says e ≡ answer) × (after ≡ before)
 
-abbrev pub TriesFrom : Result Chart Refusal → (calls before after : List ℤ) → Result Chart ListRefusal → Type 0
+abbrev pub TriesFrom : Result SoundChart Refusal → (calls before after : List ℤ) → Result Chart ListRefusal → Type 0
 TriesFrom start calls before after r = TriesOn (outcome_of (start_on start) calls before) calls before after r
 
 -- the call that stands at a place of the numbers

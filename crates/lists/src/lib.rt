@@ -22,6 +22,7 @@ ghost use Rattle.lists.specs.Runs.{RunsFromWords, RunsFromBytes, RunsFrom, Tries
 
 use answers::ANSWER_SIZE;
 use calls::{CALL_SIZE, are_calls, call_at};
+use chart::sound::SoundChart;
 use chart::{Chart, zero_chart};
 use lines::{Lines, lines_of};
 use refusals::Refusal;
@@ -70,17 +71,17 @@ pub fn run_from_bytes(bytes: &[u8], calls: &[i64], answers: &mut [i64]) -> Run
 }
 
 // The chart that is built of these words.
-#[tactic(auto, using(crate::proofs::Starting::held_built, crate::proofs::Starting::held_not_built))]
-fn held_of(kind: u16, words: &[i16]) -> Result<Chart, Refusal>
+#[tactic(auto, using(crate::proofs::Starting::held_built, crate::proofs::Starting::held_not_built, chart::proofs::StaysSound::built_is_sound))]
+fn held_of(kind: u16, words: &[i16]) -> Result<SoundChart, Refusal>
     ensures { IsHeld (words_start kind words.now) result }
 {
     let b = Chart::build(kind, words);
     b.answer?;
-    Ok(b.chart)
+    Ok(SoundChart { chart: b.chart })
 }
 
 // Runs the list, unless it is refused. A refused list gives the chart of zeros.
-fn run_from(start: Result<Chart, Refusal>, calls: &[i64], answers: &mut [i64]) -> Run
+fn run_from(start: Result<SoundChart, Refusal>, calls: &[i64], answers: &mut [i64]) -> Run
     ensures { RunsFrom start calls.now answers.old answers.new result }
 {
     let (chart, answer) = match try_run(start, calls, answers) {
@@ -97,7 +98,7 @@ fn run_from(start: Result<Chart, Refusal>, calls: &[i64], answers: &mut [i64]) -
 // The chart after the calls, unless the list is refused. A refused list does not change the buffer.
 #[tactic(auto, using(crate::proofs::Outcomes::tests))]
 fn try_run(
-    start: Result<Chart, Refusal>,
+    start: Result<SoundChart, Refusal>,
     calls: &[i64],
     answers: &mut [i64],
 ) -> Result<Chart, ListRefusal>
@@ -110,8 +111,8 @@ fn try_run(
     if short {
         return Err(ListRefusal::NoRoom);
     }
-    let chart = start?;
-    Ok(run_calls(chart, calls, answers))
+    let held = start?;
+    Ok(run_calls(held.chart, calls, answers))
 }
 
 // Makes the calls one after the other, each on the chart that the one before gave back.
