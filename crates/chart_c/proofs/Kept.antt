@@ -1,5 +1,5 @@
 -- Laws of the chart that a call leaves in a lent buffer, and of the call itself: what is written (`written`, `not_written_lem`), what a
--- refused call leaves (`keeps_declined`, `call_refused`), and what is left by a call on the chart in a buffer (`call_leaves`).
+-- refused call leaves (`keeps_declined`, `not_called`), and what is left by a call on the chart in a buffer (`called_is`, `call_leaves`).
 use mathlib.Core.Path.{◌≡◌, refl, sym, ap, ◌∙◌}
 use mathlib.Core.Bool.{Bool, true, false}
 use mathlib.Core.List.{List}
@@ -11,7 +11,6 @@ use Rattle.rules.specs.Outcome.{Outcome, given, refused}
 use Rattle.rules.specs.Choice.{require, choose}
 use Rattle.rules.specs.Buffer.{at_front}
 use Rattle.rules.specs.State.{State}
-use Rattle.rules.specs.Soundness.{sound}
 use Rattle.rules.specs.StoredForm.{stored_form, form_fits, writing, buffer_after}
 use Rattle.rules.specs.Machine.{Call, Answer, Next, step, post, reanalysis}
 use Rattle.rules.specs.Machine as machine
@@ -117,42 +116,29 @@ module _ {A : Type 0} (parts : A → Parts) (buffer : List ℕ) (s : State) wher
     kept_as o k Places p =
         record { chart = kept_leaves o k.chart; places = rw (ap (λ (x : Outcome A). parts_of parts x) k.says ∙ kept_parts o) at p }
 
--- ---- the chart in the buffer is sound
-
-module _ (buffer : List ℕ) (size : ℕ) {c : Chart} (held : IsHeld (front_start buffer size) (Ok c)) where
-  front_taken : Taken (front_start buffer size) c
-  front_taken = held_taken (front_start buffer size) (from_front buffer size) held
-
-  pub front_sound : sound_chart c ≡ true
-  front_sound = front_taken.chart_sound
-
-  sound_state : sound (state_of c) ≡ true
-  sound_state = (sound_chart_facts c front_sound).state
-
 -- ---- the library makes a call with the kind of sixteen bits. It gives what the call with the kind that was passed gives
 
 module _ {c next : Chart} {said : Answer} where
-  same_gives : {made call : Call} → step (state_of c) made ≡ step (state_of c) call → Gives c made next said → Gives c call next said
+  pub called_by : {made call : Call} → step (state_of c) made ≡ step (state_of c) call → Gives c made next said → Gives c call next said
   unfolding next_chart answer_to
-  same_gives same gives =
+  called_by same gives =
       record {
         chart = gives.chart ∙ ap (λ (n : Next). choose (sound_chart c) (chart_of n.state) c) same;
         says = gives.says ∙ ap (λ (n : Next). choose (sound_chart c) n.answer (machine.refused 14)) same;
       }
 
-  module _ (buffer : List ℕ) (size : ℕ) (held : IsHeld (front_start buffer size) (Ok c))
-      (kind : ℕ) (x y z : ℤ) {k : ℕ} (passed : k ≡ kind_passed kind) where
+  module _ (t : sound_chart c ≡ true) (kind : ℕ) (x y z : ℤ) {k : ℕ} (passed : k ≡ kind_passed kind) where
     pub post_gives : Gives c (post k x y z) next said → Gives c (post kind x y z) next said
     post_gives gives =
         let s = state_of c in
         let kinds = ap (λ (n : ℕ). step s (post n x y z)) passed in
-        same_gives (kinds ∙ same_post s (sound_state buffer size held) kind x y z) gives
+        called_by (kinds ∙ same_post s (sound_chart_facts c t).state kind x y z) gives
 
     pub reanalysis_gives : Gives c (reanalysis k x y z) next said → Gives c (reanalysis kind x y z) next said
     reanalysis_gives gives =
         let s = state_of c in
         let kinds = ap (λ (n : ℕ). step s (reanalysis n x y z)) passed in
-        same_gives (kinds ∙ same_reanalysis s (sound_state buffer size held) kind x y z) gives
+        called_by (kinds ∙ same_reanalysis s (sound_chart_facts c t).state kind x y z) gives
 
 -- ---- a call on the chart in a buffer
 
@@ -165,10 +151,10 @@ module _ (buffer : List ℕ) (size : ℕ) (call : Call) where
   stepped s = kept_in buffer (step s call).state (answer_outcome (step s call).answer)
 
   -- the bytes are refused
-  pub call_refused : (r : Refusal) → IsHeld (front_start buffer size) (Err r) → (Places : Outcome Parts → Type 0)
+  pub not_called : (r : Refusal) → IsHeld (front_start buffer size) (Err r) → (Places : Outcome Parts → Type 0)
       → Places (refused (refusal_number r)) → Leaves (called buffer size call) buffer buffer size size Places
   unfolding called
-  call_refused r is =
+  not_called r is =
       leaves_declined (called buffer size call) buffer size (refusal_number r) (not_held (front_start buffer size) r is stepped)
 
   module _ {c : SoundChart} (held : IsHeld (front_start buffer size) (Ok c)) {next : Chart} {said : Answer}
@@ -180,7 +166,7 @@ module _ (buffer : List ℕ) (size : ℕ) (call : Call) where
     chart_is = gives.chart ∙ (ap (λ (x : Chart). next_chart x call) taken.chart ∙ next_is taken.state call taken.state-sound)
 
     -- its state and the answer are the machine's
-    called_is : kept_in buffer (state_of next) (answer_outcome said) ≡ called buffer size call
+    pub called_is : kept_in buffer (state_of next) (answer_outcome said) ≡ called buffer size call
     unfolding called
     called_is =
         let state = ap state_of chart_is ∙ state_of_chart (step taken.state call).state in

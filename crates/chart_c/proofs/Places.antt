@@ -1,5 +1,7 @@
--- Laws of what a call answers as parts (`parts_of` and the four calls), and of two parts in lent places (`filled`, `not_filled`).
+-- Laws of what a call answers as parts (`parts_of` and the four calls), of two parts in lent places (`filled`, `not_filled`), and of the
+-- chart and the places together (`leaves`).
 use mathlib.Core.Path.{◌≡◌, refl}
+use mathlib.Core.List.{List}
 use Prim.Native.Nat.{ℕ}
 use Rattle.std.specs.Prelude.{Result, Ok, Err}
 use Rattle.rules.specs.Outcome.{Outcome, given, refused, and_then}
@@ -9,9 +11,12 @@ use Rattle.refusals.specs.declared.Refusal.{Refusal}
 use Rattle.chart.specs.declared.Counts as chart
 use Rattle.chart.specs.declared.Judged.{Judged}
 use Rattle.chart.specs.declared.Retested.{Retested}
+use Rattle.judging.specs.Verdicts.{verdict_number}
 use Rattle.chart.specs.Calls.{post_says, reanalysis_says, correction_says, renewal_says}
 use Rattle.chart_c.specs.Lent.{answered_number, lent_after, flag}
 use Rattle.chart_c.specs.Answers.{Parts, word_parts, count_parts, answer_outcome, Fills}
+use Rattle.chart_c.specs.Forms.{Answered, KeepsChart}
+use Rattle.chart_c.specs.Calls.{Leaves}
 
 -- ---- the parts that an answer stands for
 
@@ -66,3 +71,9 @@ module _ {B C : Type 0} {first : Parts → B} {second : Parts → C} {x : B} {y 
   pub not_filled : {n : ℕ} → Fills first second (refused n) x x y y n
   unfolding answered_number lent_after
   not_filled = record { answered = refl; of_first = refl; of_second = refl }
+
+-- a call answers r. What holds for the parts that r says holds for those of the outcome
+pub leaves : {o : Outcome (Answered Parts)} {before after : List ℕ} {size size' : ℕ} {r : Result Parts Refusal}
+    (Places : Outcome Parts → Type 0) → KeepsChart o before after size size' r → Places (result_says r)
+    → Leaves o before after size size' Places
+leaves Places kept filled = record { chart = kept.chart; places = rw kept.says at filled }

@@ -5,7 +5,7 @@ use mir.Facts.{to_z-of_z}
 use Rattle.std.specs.Prelude.{Err}
 use Rattle.refusals.specs.Refusal.{answered_number, result_says}
 use Rattle.chart_c.proofs.Drawn.{flag_byte}
-use Rattle.chart_c.proofs.Kept.{call_refused, call_leaves, reanalysis_gives}
+use Rattle.chart_c.proofs.Kept.{not_called, call_leaves, reanalysis_gives}
 use Rattle.chart_c.proofs.Places.{filled, not_filled, retested_parts, reanalysis_parts}
 use Rattle.chart_c.proofs.calls.reanalyse.Goals as goal
 
@@ -13,7 +13,7 @@ pub returns-in_err-held : goal.returns-in_err-held
 unfolding answered_number result_says
 returns-in_err-held c =
     let same : c.from_residual.result ≡ Err c.in_err-held.field-0.0 = search rules in
-    rw same (call_refused _ _ _ _ c.in_err-held.ensures _ not_filled)
+    rw same (not_called _ _ _ _ c.in_err-held.ensures _ not_filled)
 
 pub returns-in_err-retested : goal.returns-in_err-retested
 unfolding answered_number result_says
@@ -30,4 +30,5 @@ returns c =
     let fits = c.ranges in
     let made = rw (to_z-of_z fits.a, to_z-of_z fits.b, to_z-of_z fits.c) at c.reanalyse-answer.ensures in
     let gives = reanalysis_gives c.in_ok-held.held.sound c.args.kind c.args.a c.args.b c.args.c c.kind_passed.ensures made in
-    call_leaves _ _ _ c.in_ok-held.ensures gives retested_parts _ (reanalysis_parts _) c.in_ok-retested.ensures _ (filled (search rules) (c.from.ensures ∙ flag_byte _))
+    call_leaves _ _ _ c.in_ok-held.ensures gives retested_parts _ (reanalysis_parts _) c.in_ok-retested.ensures _
+    (filled (search rules) (c.from.ensures ∙ flag_byte _))

@@ -2,7 +2,6 @@
 use Prim.Native.Nat.{◌≤◌}
 use borrow.Author.Tests.{le-leb, lt-leb}
 use lib.ListN.{length}
-use lib.Seq.{length-take-le}
 use Rattle.refusals.specs.Refusal.{refusal_number}
 use Rattle.chart.specs.Checked.{chart_says}
 use Rattle.store.specs.HeldChart.{chart_of_start}
