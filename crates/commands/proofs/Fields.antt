@@ -1,6 +1,5 @@
--- The fields of a line from a byte on: the first field and those after it (`none_found`, `one_found`, `first_field_is`, `fields_behind`),
--- whether the first field begins a comment (`comment_found`), the number in it (`number_found`), how much of the line remains after it
--- (`remaining`), and four numbers one after the other (`readings_found`).
+-- The fields of a line: the first field (`first_is`), those after it (`rest_is`), the number in it (`number_is`), whether it begins a
+-- comment (`comment_is`), and four numbers one after the other (`readings_found`).
 use mathlib.Core.Path.{◌≡◌, refl, sym, ap, ◌∙◌}
 use mathlib.Core.Bool.{Bool, true, not}
 use mathlib.Core.List.{List, [], ◌∷◌}
@@ -14,112 +13,12 @@ use lib.IntN.{ℤ}
 use Rattle.rules.proofs.Integers.{by_order}
 use Rattle.rules.proofs.Choice.{choose_ind}
 use Rattle.rules.proofs.Booleans.{zero_not_one}
-use Rattle.parsing.specs.Fields.{is_blank, in_front, starting_with, fields_of, between, IsFirstField, IsSplit}
+use Rattle.parsing.specs.Fields.{fields_of, IsSplit}
 use Rattle.parsing.specs.Number.{number_in_field, kind_in_field, reading_in_field}
 use Rattle.commands.specs.Command.{first_field, first_number, is_comment}
-use Rattle.commands.specs.Answers.{IsFieldAt, AreReadings}
+use Rattle.commands.specs.Answers.{AreReadings}
 
--- the part of a line that begins at a byte, as a slice
-pub part_from : (line : List ℕ) (at : ℕ) → take (length line - at) (drop at line) ≡ drop at line
-part_from line at = let count = length-drop at line in take_all (length line - at) (drop at line) (omega arith)
-
--- ---- whether there is a field
-
-abbrev pub some_field : List (List ℕ) → Bool
-some_field fields = not (eqb (length fields) 0)
-
-pub some_field_lem : (field : List ℕ) (fields : List (List ℕ)) → some_field (field ∷ fields) ≡ true
-some_field_lem field fields = ap not (ne_eqb (suc (length fields)) 0 (λ e. omega arith))
-
--- ---- a text without fields has none from any byte on
-
-front_is_some : (b : ℕ) (fields : List (List ℕ)) → in_front b fields ≡ [] → ⊥
-front_is_some b [] e = zero_not_one cc
-front_is_some b (field ∷ fields) e = zero_not_one cc
-
-start_is_some : (b : ℕ) (rest : List ℕ) (fields : List (List ℕ)) → starting_with b rest fields ≡ [] → ⊥
-start_is_some b [] fields e = zero_not_one cc
-start_is_some b (next ∷ rest) fields e =
-    choose_ind (λ (found : List (List ℕ)). found ≡ [] → ⊥) (is_blank next) ((b ∷ []) ∷ fields) (in_front b fields)
-    (λ t none. zero_not_one cc)
-    (λ t. front_is_some b fields)
-    e
-
-no_field_later : (b : ℕ) (rest : List ℕ) → fields_of (b ∷ rest) ≡ [] → fields_of rest ≡ []
-unfolding fields_of
-no_field_later b rest =
-    let later = fields_of rest in
-    choose_ind (λ (found : List (List ℕ)). found ≡ [] → later ≡ []) (is_blank b) later (starting_with b rest later)
-    (λ t e. e)
-    (λ t e. absurd (start_is_some b rest later e))
-
-no_fields_behind : (text : List ℕ) (i : ℕ) → fields_of text ≡ [] → fields_of (drop i text) ≡ []
-no_fields_behind text zero e = e
-no_fields_behind [] (suc i) e = e
-no_fields_behind (b ∷ text) (suc i) e = no_fields_behind text i (no_field_later b text e)
-
--- ---- the first field of a text
-
-module _ {text : List ℕ} {start end : ℕ} (field : IsFirstField text start end) where
-  pub none_found : end ≤ start → fields_of text ≡ []
-  none_found none = rw (le-ltb start end none) at field.fields
-
-  pub one_found : start < end → fields_of text ≡ between start end text ∷ fields_of (drop end text)
-  one_found some = rw (lt-ltb start end some) at field.fields
-
-  -- the field's first byte
-  comment_by : start < end → (b : ℕ) (rest : List ℕ) → drop start text ≡ b ∷ rest → is_comment (between start end text) ≡ eqb b 35
-  comment_by some b rest e =
-      let more : end - start ≡ suc (end - start - 1) = omega arith in
-      rw (e, more)
-
-  pub comment_found : start < end → is_comment (between start end text) ≡ eqb (get_or text start 0) 35
-  comment_found some =
-      comment_by some (get_or text start 0) (drop (suc start) text) (drop-cons text start 0 (omega (arith, field.within)))
-
-  pub field_is_there : ltb start end ≡ some_field (fields_of text)
-  field_is_there =
-      by_order start end
-      (λ none. rw (le-ltb start end none, none_found none))
-      (λ some. rw (lt-ltb start end some, one_found some) (sym (some_field_lem (between start end text) (fields_of (drop end text)))))
-
-  pub first_field_is : between start end text ≡ first_field (fields_of text)
-  first_field_is =
-      by_order start end
-      (λ none. let zero-long : end - start ≡ 0 = omega arith in rw (none_found none, zero-long))
-      (λ some. rw (one_found some))
-
-  pub fields_behind : fields_of (drop end text) ≡ drop 1 (fields_of text)
-  fields_behind =
-      by_order start end
-      (λ none. rw (no_fields_behind text end (none_found none), none_found none))
-      (λ some. rw (one_found some))
-
--- ---- the first field from a byte on, and the number in it
-
-pub field_found : {line : List ℕ} {at start end : ℕ} → at ≤ length line → IsFirstField (drop at line) start end
-    → IsFieldAt line at (at + start) (at + end)
-field_found {line} {at} {start} {end} h field =
-    let count = length-drop at line in
-    let size : at + end - (at + start) ≡ end - start = omega arith in
-    let from : at + start - at ≡ start = omega arith in
-    let to : at + end - at ≡ end = omega arith in
-    let test : ltb (at + start) (at + end) ≡ ltb start end =
-    by_order start end
-    (λ none. rw (le-ltb start end none) (le-ltb (at + start) (at + end) (omega arith)))
-    (λ some. rw (lt-ltb start end some) (lt-ltb (at + start) (at + end) (omega arith))) in
-    record {
-      after = omega arith;
-      first = rw (from, to) field;
-      ordered = omega (arith, field.ordered);
-      within = omega (arith, field.within);
-      behind = λ some. omega arith;
-      present = test ∙ field_is_there field;
-      field = rw (size, ← drop-drop start at line) (first_field_is field);
-      rest = rw (← drop-drop end at line) (fields_behind field);
-    }
-
--- ---- the first field of a text and what follows it, as slices
+-- ---- the first field of a text and what follows it
 
 module _ {text : List ℕ} where
   pub first_is : (field : List ℕ) {rest : List ℕ} → IsSplit text field rest → field ≡ first_field (fields_of text)

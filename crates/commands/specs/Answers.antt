@@ -1,19 +1,18 @@
 -- What the functions of `commands` give.
-use Rattle.std.specs.Prelude.{◌≡◌, not, List, ℕ, ◌-◌, ◌≤◌, ◌<◌, length, drop, eqb, ltb, Result, Ok, Err}
+use Rattle.std.specs.Prelude.{◌≡◌, List, ℕ, ◌≤◌, length, drop, eqb, Result, Ok, Err}
 use Rattle.rules.specs.Choice.{choose}
 use Rattle.refusals.specs.declared.Refusal.{Refusal}
 use Rattle.chart.specs.declared.Chart.{Chart}
 use Rattle.chart.specs.declared.Called.{Called}
 use Rattle.rules.specs.Word.{word_alone}
 use Rattle.rules.specs.Buffer.{Placed}
-use Rattle.parsing.specs.Fields.{fields_of, between, IsFirstField}
 use Rattle.parsing.specs.Number.{FieldNumber, number_in_field, kind_in_field, reading_in_field}
 use Rattle.printing.specs.Output.{Puts}
 use Rattle.commands.specs.declared.Answered.{Answered}
 use Rattle.commands.specs.declared.numbers.Readings.{Readings}
 use Rattle.replies.specs.declared.Fault.TheVariants as faults
 use Rattle.replies.specs.Texts.{formed_text}
-use Rattle.commands.specs.Command.{Finding, Line, first_field, first_number}
+use Rattle.commands.specs.Command.{Finding, Line, first_number}
 use Rattle.commands.specs.Reply.{reply_to_line, chart_after_line, answer_to_line, answer_most}
 
 -- the contract of answering a line: the chart after it, every byte of the buffer, and how many of them are the answer
@@ -29,21 +28,6 @@ AnswersInFull c line before after r = answer_most ≤ length before → Placed b
 pub record Replies (c : Chart) (line : Line) (before after : List ℕ) (r : Answered) : Type 0 where
   pub chart : r.chart ≡ chart_after_line c line
   pub text : Puts before 0 (reply_to_line c line) after r.size
-
--- the fields of a line from a byte on
-abbrev pub fields_from : List ℕ → ℕ → List (List ℕ)
-fields_from line at = fields_of (drop at line)
-
--- the first field from a byte on goes from `start` to `end`, and the others follow it. If start is end, there is no field
-pub record IsFieldAt (line : List ℕ) (at start end : ℕ) : Type 0 where
-  pub after : at ≤ start
-  pub first : IsFirstField (drop at line) (start - at) (end - at)
-  pub ordered : start ≤ end
-  pub within : end ≤ length line
-  pub behind : start < end → at < end
-  pub present : ltb start end ≡ not (eqb (length (fields_from line at)) 0)
-  pub field : between start end line ≡ first_field (fields_from line at)
-  pub rest : fields_from line end ≡ drop 1 (fields_from line at)
 
 -- the kind and the three readings in the first four fields
 pub record AreReadings (fields : List (List ℕ)) (r : Readings) : Type 0 where

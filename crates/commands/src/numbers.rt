@@ -3,9 +3,9 @@ ghost use Rattle.std.specs.Prelude.{◌≤◌, length};
 ghost use Rattle.rules.specs.Buffer.{Placed};
 ghost use Rattle.parsing.specs.Fields.{fields_of};
 ghost use Rattle.commands.specs.Command.{words_in};
-ghost use Rattle.commands.specs.Answers.{IsFieldAt, AreReadings};
+ghost use Rattle.commands.specs.Answers.{AreReadings};
 
-use parsing::fields::{Field, first_field, split_field};
+use parsing::fields::split_field;
 use parsing::numbers::{kind_in_field, number_in_field, reading_in_field, word_in_field};
 
 // A kind and three readings.
@@ -15,20 +15,6 @@ pub struct Readings {
     pub a: i64,
     pub b: i64,
     pub c: i64,
-}
-
-// The first field from a byte on, by its place in the line. If there is none, start and end are the same.
-pub fn field_at(line: &[u8], at: usize) -> Field
-    requires { at ≤ length line.now }
-    ensures { IsFieldAt line.now at result.start result.end }
-{
-    let field = first_field(&line[at..]);
-    let start = field.start;
-    let end = field.end;
-    Field {
-        start: at + start,
-        end: at + end,
-    }
 }
 
 pub fn readings_in(fields: &[u8]) -> Readings

@@ -1,5 +1,6 @@
 -- The first field of a text: blanks before it do not count (`fields_after_blanks`), it ends at the first blank after it or with the text
--- (`field_end`), and a run of other bytes that ends so is a field (`fields_of_run`). Joined, they are `first_field`.
+-- (`field_end`), and a run of other bytes that ends so is a field (`fields_of_run`). Joined, they are the first field and what
+-- follows it (`field_split`).
 use mathlib.Core.Path.{◌≡◌, refl, sym, ap, ◌∙◌}
 use mathlib.Core.Bool.{Bool, true, false, not, false≢true}
 use mathlib.Core.List.{List, [], ◌∷◌}
@@ -102,7 +103,7 @@ module _ {text : List ℕ} {start end : ℕ} (blanks : AfterBlanks text start) (
       (λ past. rw (drop_of_length-le text past))
       (λ within. absurd (false≢true (sym (blanks.stops within) ∙ (rw same at field.stops) within)))
 
-  pub first_field_lem : IsFirstField text start end
+  first_field_lem : IsFirstField text start end
   first_field_lem =
       let from_start = fields_after_blanks text start blanks.within blanks.blank in
       record {

@@ -1,23 +1,7 @@
 // The fields of a line: the longest runs of bytes that are not blanks.
 ghost use Rattle.std.specs.Prelude.{◌≡◌, ◌≤◌, length};
 ghost use Rattle.parsing.specs.Bytes.{same_bytes};
-ghost use Rattle.parsing.specs.Fields.{is_blank, IsFirstField, IsSplit, AfterBlanks, AfterField, IsWithoutReturn};
-
-// The place of a field: its first byte, and the byte after its last.
-#[derive(Clone, Copy)]
-pub struct Field {
-    pub start: usize,
-    pub end: usize,
-}
-
-// The first field. If there is none, start and end are the same.
-pub fn first_field(text: &[u8]) -> Field
-    ensures { IsFirstField text.now result.start result.end }
-{
-    let start = after_blanks(text);
-    let end = after_field(text, start);
-    Field { start, end }
-}
+ghost use Rattle.parsing.specs.Fields.{is_blank, IsSplit, AfterBlanks, AfterField, IsWithoutReturn};
 
 // The first field, and what follows it. If there is no field, both are empty.
 pub fn split_field(text: &[u8]) -> (&[u8], &[u8])
