@@ -1,18 +1,13 @@
 -- The fields of a line: the first field (`first_is`), those after it (`rest_is`), the number in it (`number_is`), whether it begins a
 -- comment (`comment_is`), and four numbers one after the other (`readings_found`).
-use mathlib.Core.Path.{◌≡◌, refl, sym, ap, ◌∙◌}
-use mathlib.Core.Bool.{Bool, true, not}
+use mathlib.Core.Path.{◌≡◌, refl, ap, ◌∙◌}
 use mathlib.Core.List.{List, [], ◌∷◌}
-use Prim.Native.Nat.{ℕ, zero, suc, ◌+◌, ◌-◌, ◌<◌, ◌≤◌}
+use Prim.Native.Nat.{ℕ, ◌<◌}
 use native.Mathlib.Omega.{arith}
-use borrow.Author.Tests.{lt-ltb, le-ltb, ne_eqb}
-use lib.ListN.{length, take, drop, get_or, length-drop}
-use lib.Seq.{take_all, drop-cons, drop-drop}
-use lib.Dec.{eqb, ltb}
+use lib.ListN.{length, drop, get_or}
+use lib.Seq.{drop-drop}
+use lib.Dec.{eqb}
 use lib.IntN.{ℤ}
-use Rattle.rules.proofs.Integers.{by_order}
-use Rattle.rules.proofs.Choice.{choose_ind}
-use Rattle.rules.proofs.Booleans.{zero_not_one}
 use Rattle.parsing.specs.Fields.{fields_of, IsSplit}
 use Rattle.parsing.specs.Number.{number_in_field, kind_in_field, reading_in_field}
 use Rattle.commands.specs.Command.{first_field, first_number, is_comment}

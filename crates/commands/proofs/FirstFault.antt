@@ -24,7 +24,8 @@ module _ {text : List ℕ} where
   fault_found [] split fault = rw (split.none refl).0
   fault_found (b ∷ field) split fault = rw (split.some (omega arith), ne_eqb (suc (length field)) 0 (λ e. omega arith))
 
-  pub no_end : (field : List ℕ) {rest : List ℕ} → IsSplit text field rest → 0 < length field → Err faults.ExtraNumber ≡ end_fault (fields_of text)
+  pub no_end : (field : List ℕ) {rest : List ℕ} → IsSplit text field rest → 0 < length field
+      → Err faults.ExtraNumber ≡ end_fault (fields_of text)
   no_end field split some = rw (split.some some)
 
   pub end_found : (field : List ℕ) {rest : List ℕ} → IsSplit text field rest → length field ≡ 0 → no_fault ≡ end_fault (fields_of text)

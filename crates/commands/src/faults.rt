@@ -127,7 +127,8 @@ fn reading_fault(field: &[u8]) -> Result<(), Fault>
     field_fault(field, Err(Fault::NumberTooLarge))
 }
 
-// The fault of a number that the command takes, which is missing if the field is empty. `beyond` is found if it does not fit a signed 64-bit number.
+// The fault of a number that the command takes, which is missing if the field is empty. `beyond` is found if it does not fit a signed
+// 64-bit number.
 fn field_fault(field: &[u8], beyond: Result<(), Fault>) -> Result<(), Fault>
     ensures { result ≡ fault_in (field_fault beyond) field.now }
 {

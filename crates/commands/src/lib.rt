@@ -35,8 +35,8 @@ use store::FORM_MOST;
 // The most bytes of a line.
 pub const LINE_MOST: usize = 8191;
 
-// Enough bytes for every answer: `answer_most` in `specs/Reply`. A chart's words, of at most six characters and a blank each, take less than
-// 3,000 bytes.
+// Enough bytes for every answer: `answer_most` in `specs/Reply`. A chart's words, of at most six characters and a blank each, take less
+// than 3,000 bytes.
 pub const ANSWER_MOST: usize = 4096;
 
 #[derive(Clone, Copy)]
