@@ -24,6 +24,8 @@ use judging::verdicts::Verdict;
 use refusals::Refusal;
 use sound::SoundChart;
 
+// The kind, the status and the open verdict are numbers as in the stored form. A chart that is handed in may hold any number, and a number
+// that the paper does not name is refused with 14.
 #[derive(Clone, Copy)]
 pub struct Chart {
     pub kind: u16,

@@ -23,7 +23,6 @@ use Rattle.chart.specs.Chart.{state_of, chart_of}
 use Rattle.chart.specs.declared.sound.SoundChart.{SoundChart}
 use Rattle.chart.specs.Checked.{chart_says}
 use Rattle.chart.proofs.State.{state_of_chart}
-use Rattle.chart.proofs.Runs.{sound_chart_of}
 use Rattle.store.specs.Store.{read_says, IsRead}
 use Rattle.store.specs.HeldChart.{chart_of_start, IsHeld}
 use Rattle.chart_c.specs.Lent.{answered_number}
@@ -83,6 +82,7 @@ number_says c (Err r) = refl
 pub number_read : (bytes : List ℕ) (r : Called (Unit {0})) → IsRead (reading bytes) r
     → refusal.answered_number r.answer ≡ answered_number (bytes_start bytes)
 number_read bytes r is = number_says r.chart r.answer ∙ ap answered_number is.says
+
 -- its number is the one that is answered
 pub number_held : (a : Outcome State) (h : Result SoundChart Refusal) → IsHeld a h → refusal.answered_number h ≡ answered_number a
 unfolding chart_of_start chart_says answered_number refusal.answered_number

@@ -70,6 +70,7 @@ fn build_fault(fields: &[u8]) -> Result<(), Fault>
     words_fault(rest)
 }
 
+// Takes the fields one by one. An empty one is the end, so there is no list to go through.
 fn words_fault(fields: &[u8]) -> Result<(), Fault>
     ensures { result ≡ words_fault (fields_of fields.now) }
 {

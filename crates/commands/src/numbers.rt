@@ -33,6 +33,7 @@ pub fn readings_in(fields: &[u8]) -> Readings
 }
 
 // Puts the numbers of the fields, as words, at the front of a buffer. Answers how many they are.
+// Takes the fields one by one. An empty one is the end, so there is no list to go through.
 pub fn put_words(fields: &[u8], words: &mut [i16]) -> usize
     requires { length fields.now ≤ length words.old }
     ensures { Placed words.old 0 (words_in (fields_of fields.now)) words.new result }

@@ -117,6 +117,7 @@ fn read_some(rt: HostRuntime, pending: Pending, line: &mut [u8]) -> ControlFlow<
 }
 
 // Takes bytes that were read. Answers each line that ends in them, and keeps the rest. Stops after an answer that was not written.
+// The place moves by the length of each part. A last part without a line feed is kept.
 fn take_bytes(rt: HostRuntime, pending: Pending, bytes: &[u8], line: &mut [u8]) -> Pending
     requires { CanTake pending line.old }
     ensures { Taken bytes.now pending line.old result line.new }

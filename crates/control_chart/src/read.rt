@@ -35,7 +35,7 @@ fn read_open(file: File, held: &mut [u8]) -> Result<FileRead>
     Ok(FileRead { len, permissions })
 }
 
-// Reads to the end, or until the buffer is full. A read may bring less than there is.
+// Reads to the end, or until the buffer is full. A read may bring less than there is, so the place moves by the length of each.
 fn read_all(mut file: File, bytes: &mut [u8]) -> Result<usize>
     ensures read { IfOk result (λ len. IsPrefixLen len bytes.new) }
     ensures failed { OnErr result (length bytes.new ≡ length bytes.old) }

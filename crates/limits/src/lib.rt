@@ -4,6 +4,9 @@
 // words. `beyond` compares a word with the limits at any m, by squares of whole numbers. `beyond_control` and `beyond_warning` do this at
 // the paper's 3 and 2. `near_mean` and `side_of_mean` compare a word with the mean. `without_word` takes a word away from sums: document
 // 02, Q-5.
+//
+// That sums are bounded is an invariant of `Limits` and not of `Sums`: `without_word` may be given a word that is not one of the words
+// summed, and V may then be negative.
 #![tactic(auto)]
 
 mod bounded;

@@ -1,5 +1,5 @@
 -- `chart_c::calls::post` meets its contract.
-use mathlib.Core.Path.{◌≡◌, refl}
+use mathlib.Core.Path.{◌≡◌}
 use borrow.Author.Rules.{rules}
 use mir.Facts.{to_z-of_z}
 use Rattle.std.specs.Prelude.{Err}
