@@ -14,6 +14,7 @@ use Rattle.rules.specs.State.{State}
 use Rattle.rules.specs.StoredForm.{stored_form, form_fits, writing, buffer_after}
 use Rattle.rules.specs.Machine.{Call, Answer, Next, step, post, reanalysis}
 use Rattle.rules.specs.Machine as machine
+use Rattle.rules.proofs.Machine.{step-sound}
 use Rattle.rules.proofs.Outcome.{given_not_refused}
 use Rattle.refusals.specs.Refusal.{refusal_number, result_says}
 use Rattle.refusals.specs.declared.Refusal.{Refusal}
@@ -24,7 +25,7 @@ use Rattle.chart.specs.Soundness.{sound_chart}
 use Rattle.chart.specs.Calls.{next_chart, answer_to, Gives}
 use Rattle.chart.proofs.State.{state_of_chart}
 use Rattle.chart.proofs.SoundCharts.{sound_chart_facts}
-use Rattle.chart.proofs.Runs.{next_is, answer_is}
+use Rattle.chart.proofs.Runs.{next_is, answer_is, sound_chart_of}
 use Rattle.store.specs.HeldChart.{IsHeld}
 use Rattle.store.specs.Store.{answer_to_write, buffer_after_write, Writes}
 use Rattle.chart_c.specs.Lent.{lent_after}
@@ -164,6 +165,10 @@ module _ (buffer : List ℕ) (size : ℕ) (call : Call) where
 
     chart_is : next ≡ chart_of (step taken.state call).state
     chart_is = gives.chart ∙ (ap (λ (x : Chart). next_chart x call) taken.chart ∙ next_is taken.state call taken.state-sound)
+
+    -- the chart after the call is sound
+    pub next_sound : sound_chart next ≡ true
+    next_sound = ap sound_chart chart_is ∙ sound_chart_of (step taken.state call).state (step-sound taken.state call taken.state-sound)
 
     -- its state and the answer are the machine's
     pub called_is : kept_in buffer (state_of next) (answer_outcome said) ≡ called buffer size call

@@ -1,14 +1,15 @@
 -- The fields of a line: the first field (`first_is`), those after it (`rest_is`), the number in it (`number_is`), whether it begins a
--- comment (`comment_is`), and four numbers one after the other (`readings_found`).
+-- comment (`comment_is`, `comment_found`), and four numbers one after the other (`readings_found`).
 use mathlib.Core.Path.{◌≡◌, refl, ap, ◌∙◌}
 use mathlib.Core.List.{List, [], ◌∷◌}
-use Prim.Native.Nat.{ℕ, ◌<◌}
+use Prim.Native.Nat.{ℕ, suc, ◌-◌, ◌<◌, ◌≤◌}
 use native.Mathlib.Omega.{arith}
+use borrow.Author.Tests.{lt-ltb, le-ltb}
 use lib.ListN.{length, drop, get_or}
-use lib.Seq.{drop-drop}
+use lib.Seq.{drop-cons, drop-drop}
 use lib.Dec.{eqb}
 use lib.IntN.{ℤ}
-use Rattle.parsing.specs.Fields.{fields_of, IsSplit}
+use Rattle.parsing.specs.Fields.{fields_of, between, IsFirstField, IsSplit}
 use Rattle.parsing.specs.Number.{number_in_field, kind_in_field, reading_in_field}
 use Rattle.commands.specs.Command.{first_field, first_number, is_comment}
 use Rattle.commands.specs.Answers.{AreReadings}
@@ -28,6 +29,23 @@ module _ {text : List ℕ} where
   pub number_is : (field : List ℕ) {rest : List ℕ} → IsSplit text field rest → number_in_field field ≡ first_number (fields_of text)
   unfolding first_number
   number_is field split = ap number_in_field (first_is field split)
+
+-- the first field by its places
+module _ {text : List ℕ} {start end : ℕ} (field : IsFirstField text start end) where
+  pub none_found : end ≤ start → fields_of text ≡ []
+  none_found none = rw (le-ltb start end none) at field.fields
+
+  pub one_found : start < end → fields_of text ≡ between start end text ∷ fields_of (drop end text)
+  one_found some = rw (lt-ltb start end some) at field.fields
+
+  comment_by : start < end → (b : ℕ) (rest : List ℕ) → drop start text ≡ b ∷ rest → is_comment (between start end text) ≡ eqb b 35
+  comment_by some b rest e =
+      let more : end - start ≡ suc (end - start - 1) = omega arith in
+      rw (e, more)
+
+  pub comment_found : start < end → is_comment (between start end text) ≡ eqb (get_or text start 0) 35
+  comment_found some =
+      comment_by some (get_or text start 0) (drop (suc start) text) (drop-cons text start 0 (omega (arith, field.within)))
 
 -- the field's first byte
 pub comment_is : (field : List ℕ) → 0 < length field → is_comment field ≡ eqb (get_or field 0 0) 35

@@ -1,14 +1,15 @@
--- Laws of what a line is: too long (`too_long`), passed over (`no_field`, `a_comment`, `nothing_said`), with a fault (`a_fault`), without a
--- fault (`without_fault`). A law of the line feed after a reply (`line_fed`).
+-- Laws of what a line is: too long (`too_long`), passed over (`no_field` and `a_comment`, `nothing_there` and `comment_there`,
+-- `nothing_said`), with a fault (`a_fault`), without a fault (`without_fault`). A law of the line feed after a reply (`line_fed`).
 use mathlib.Core.Path.{◌≡◌, refl, ap, ◌∙◌}
 use mathlib.Core.Bool.{true, false}
 use mathlib.Core.List.{List, [], ◌∷◌, ◌++◌}
 use Prim.Native.Nat.{ℕ, ◌≤◌, ◌<◌}
+use native.Mathlib.Omega.{arith}
 use borrow.Author.Tests.{lt-leb, le-leb}
 use lib.ListN.{length, get_or}
 use lib.Dec.{eqb}
 use Rattle.chart.specs.declared.Chart.{Chart}
-use Rattle.parsing.specs.Fields.{fields_of, IsSplit}
+use Rattle.parsing.specs.Fields.{fields_of, IsFirstField, IsSplit}
 use Rattle.printing.specs.Output.{Puts}
 use Rattle.printing.proofs.Putting.{puts_none, puts_then}
 use Rattle.replies.specs.declared.Fault.{Fault}
@@ -19,32 +20,43 @@ use Rattle.std.specs.Prelude.{Ok, Err}
 use Rattle.commands.specs.Command.{Finding, passed_over, faulty, line_most, command_for, fault_for, name_in, named_line, line_of, line_in}
 use Rattle.commands.specs.Reply.{reply_to_line, answer_to_line}
 use Rattle.commands.specs.Answers.{Answers, Replies}
-use Rattle.commands.proofs.Fields.{comment_is}
+use Rattle.commands.proofs.Fields.{none_found, one_found, comment_found, comment_is}
 
 pub too_long : (text : List ℕ) → line_most < length text → line_in text ≡ faulty faults.LineTooLong
 unfolding line_in
 too_long text h = rw (lt-leb (length text) line_most h)
 
-module _ (text first rest : List ℕ) (short : length text ≤ line_most) (split : IsSplit text first rest) where
-  by_fields : line_in text ≡ line_of (fields_of text)
-  unfolding line_in
-  by_fields = rw (le-leb (length text) line_most short)
+by_fields : (text : List ℕ) → length text ≤ line_most → line_in text ≡ line_of (fields_of text)
+unfolding line_in
+by_fields text short = rw (le-leb (length text) line_most short)
 
-  pub no_field : length first ≡ 0 → line_in text ≡ passed_over
+-- by the places of the first field
+module _ (text : List ℕ) (start end : ℕ) (short : length text ≤ line_most) (f : IsFirstField text start end) where
+  pub no_field : start ≡ end → line_in text ≡ passed_over
   unfolding line_of
-  no_field none = by_fields ∙ ap line_of (split.none none).0
+  no_field e = by_fields text short ∙ ap line_of (none_found f (omega arith))
+
+  pub a_comment : start < end → eqb (get_or text start 0) 35 ≡ true → line_in text ≡ passed_over
+  unfolding line_of
+  a_comment some e = by_fields text short ∙ ap line_of (one_found f some) ∙ rw (comment_found f some, e)
+
+-- by the first field itself
+module _ (text first rest : List ℕ) (short : length text ≤ line_most) (split : IsSplit text first rest) where
+  pub nothing_there : length first ≡ 0 → line_in text ≡ passed_over
+  unfolding line_of
+  nothing_there none = by_fields text short ∙ ap line_of (split.none none).0
 
   module _ (some : 0 < length first) where
-    pub a_comment : eqb (get_or first 0 0) 35 ≡ true → line_in text ≡ passed_over
+    pub comment_there : eqb (get_or first 0 0) 35 ≡ true → line_in text ≡ passed_over
     unfolding line_of
-    a_comment e = by_fields ∙ ap line_of (split.some some) ∙ rw (comment_is first some, e)
+    comment_there e = by_fields text short ∙ ap line_of (split.some some) ∙ rw (comment_is first some, e)
 
     -- a command, by its name and the fault of the fields after it
     module _ (e : eqb (get_or first 0 0) 35 ≡ false) (n : Name) (named : n ≡ name_in first)
         (found : Finding) (is_found : found ≡ fault_for n (fields_of rest)) where
       a_command : line_in text ≡ named_line n (fields_of rest)
       unfolding line_of
-      a_command = by_fields ∙ ap line_of (split.some some) ∙ rw (comment_is first some, e, ← named)
+      a_command = by_fields text short ∙ ap line_of (split.some some) ∙ rw (comment_is first some, e, ← named)
 
       pub a_fault : {fault : Fault} → found ≡ Err fault → line_in text ≡ faulty fault
       unfolding named_line

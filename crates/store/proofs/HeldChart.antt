@@ -1,4 +1,5 @@
 -- Laws of a chart in hand: a start (`held_begun`), a refusal (`held_declined`), and bytes that were read (`held_read`, `held_not_read`).
+-- Reading never refuses with 0 (`reading_number`).
 use mathlib.Core.Path.{◌≡◌, refl, sym, ap, ◌∙◌}
 use mathlib.Core.Bool.{true}
 use mathlib.Core.List.{List}
@@ -52,3 +53,13 @@ module _ (bytes : List ℕ) (r : Called (Unit {0})) (is : IsRead (reading bytes)
   pub held_not_read : (refusal : Refusal) → r.answer ≡ Err refusal → IsHeld (bytes_start bytes) (Err refusal)
   unfolding read_says
   held_not_read refusal e = held_declined refusal (sym is.says ∙ ap (read_says r.chart) e)
+
+pub reading_number : (bytes : List ℕ) (n : ℕ) → bytes_start bytes ≡ refused n → 1 ≤ n
+unfolding reading
+reading_number bytes =
+    let Some : Outcome State → Type 0 = λ answer. (n : ℕ) → answer ≡ refused n → 1 ≤ n in
+    require_ind Some (is_form bytes) (refused 13) _
+    (λ _. require_ind Some (sound (held_in bytes)) (refused 14) (given (held_in bytes))
+    (λ _ n e. given_not_refused e)
+    (λ _ n e. let same : ◌≡◌ {A = ℕ} 14 n = cc in omega arith))
+    (λ _ n e. let same : ◌≡◌ {A = ℕ} 13 n = cc in omega arith)

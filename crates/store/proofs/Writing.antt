@@ -26,8 +26,6 @@ use Rattle.rules.proofs.Soundness.{sound_facts}
 use Rattle.chart.specs.declared.Chart.{Chart}
 use Rattle.chart.specs.Chart.{state_of}
 use Rattle.chart.specs.Soundness.{sound_chart}
-use Rattle.chart.specs.Checked.{chart_says, checked_chart}
-use Rattle.chart.proofs.Checked.{not_checked, checked_number}
 use Rattle.chart.proofs.State as state
 use Rattle.chart.proofs.State.{Given, base_count_lem, series_count_lem}
 use Rattle.store.specs.Store.{form_size, form_most, answer_to_write, buffer_after_write, Writes}
@@ -95,11 +93,9 @@ module _ (c : Chart) (g : Given c) where
         buffer = rw (t, room buffer h) placed.buffer;
       }
 
-pub write_unsound : (c : Chart) (buffer : List ℕ) (r : Refusal) → chart_says (Err r) ≡ checked_chart c → Writes c buffer buffer (Err r)
+pub write_unsound : (c : Chart) (buffer : List ℕ) (r : Refusal) → sound_chart c ≡ false → refusal_number r ≡ 14 → Writes c buffer buffer (Err r)
 unfolding result_says answer_to_write buffer_after_write
-write_unsound c buffer r e =
-    let t = not_checked c r e in
-    record { says = rw t (ap refused (checked_number c r e)); buffer = rw t }
+write_unsound c buffer r t number = record { says = rw t (ap refused number); buffer = rw t }
 
 -- where a record ends
 pub record_ends : {before after : List ℕ} {at next : ℕ} (kind : ℕ) (ns : List ℕ) → Placed before at (record_of kind ns) after next
