@@ -64,7 +64,7 @@ pub fn named(name: &[u8], n: u64) {
 
 pub fn refusal(refusal: Refusal) {
     let mut out = [0u8; 64];
-    let size = replies::put_refusal(&mut out, refusal);
+    let size = replies::put_refusal(&mut out, refusal.number());
     front(&out, size);
 }
 

@@ -37,7 +37,8 @@ impl SoundChart {
         let w = word_for(self.chart.kind, kind, a, b, c)?;
         let verdict = self.verdict_on(w);
         self.chart.add_word(w);
-        self.chart.set_status(status_for(verdict), verdict.number());
+        let number = verdict.number();
+        self.chart.set_status(status_for(number), number);
         Ok(Judged { word: w, verdict })
     }
 

@@ -242,6 +242,6 @@ fn write(chart: Chart, out: &mut [u8]) -> usize
     let written = store::write(chart, &mut bytes);
     match written {
         Ok(size) => put_form(out, &bytes[..size]),
-        Err(refusal) => put_refusal(out, refusal),
+        Err(refusal) => put_refusal(out, refusal.number()),
     }
 }

@@ -41,16 +41,18 @@ pub fn verdict(l: Limits, series: &[i16]) -> Verdict
     Verdict::Fits
 }
 
-// The status that a verdict sets.
-#[tactic(auto, unfolding(rules::specs::Verdict::status_for, crate::specs::Verdicts::verdict_number))]
-pub fn status_for(verdict: Verdict) -> u16
-    ensures { result ≡ rules.status_for (verdict_number verdict) }
+// The status that a verdict sets. It takes the verdict's number, as a chart holds it: CLAIMS promises an answer for every number.
+#[tactic(auto, unfolding(rules::specs::Verdict::status_for))]
+pub fn status_for(verdict: u16) -> u16
+    ensures { result ≡ rules.status_for verdict }
 {
-    match verdict {
-        Verdict::Fits => 0,
-        Verdict::BeyondControl | Verdict::BeyondWarning | Verdict::Trend => 1,
-        Verdict::OneSide => 2,
+    if verdict == 0 {
+        return 0;
     }
+    if verdict == 4 {
+        return 2;
+    }
+    1
 }
 
 #[tactic(auto, unfolding(rules::specs::Verdict::control_test, rules::specs::LastWords::last_word))]

@@ -25,7 +25,7 @@ pub fn put_formed(out: &mut [u8], formed: Result<i16, Refusal>) -> usize
 {
     match formed {
         Ok(w) => put_word(out, w),
-        Err(refusal) => put_refusal(out, refusal),
+        Err(refusal) => put_refusal(out, refusal.number()),
     }
 }
 
@@ -35,7 +35,7 @@ pub fn put_build(out: &mut [u8], answer: Result<Counts, Refusal>) -> usize
 {
     match answer {
         Ok(counts) => put_rounds(out, b"built ", counts),
-        Err(refusal) => put_refusal(out, refusal),
+        Err(refusal) => put_refusal(out, refusal.number()),
     }
 }
 
@@ -47,7 +47,7 @@ pub fn put_post(out: &mut [u8], answer: Result<Judged, Refusal>) -> usize
             let at = put_word(out, judged.word);
             put_named(out, at, b" verdict ", u64::from(judged.verdict.number()))
         }
-        Err(refusal) => put_refusal(out, refusal),
+        Err(refusal) => put_refusal(out, refusal.number()),
     }
 }
 
@@ -56,7 +56,7 @@ pub fn put_reanalysis(out: &mut [u8], answer: Result<Retested, Refusal>) -> usiz
 {
     match answer {
         Ok(retested) => put_retested(out, retested),
-        Err(refusal) => put_refusal(out, refusal),
+        Err(refusal) => put_refusal(out, refusal.number()),
     }
 }
 
@@ -65,7 +65,7 @@ pub fn put_correction(out: &mut [u8], answer: Result<(), Refusal>) -> usize
 {
     match answer {
         Ok(()) => put_text(out, 0, b"corrected"),
-        Err(refusal) => put_refusal(out, refusal),
+        Err(refusal) => put_refusal(out, refusal.number()),
     }
 }
 
@@ -74,7 +74,7 @@ pub fn put_renewal(out: &mut [u8], answer: Result<Counts, Refusal>) -> usize
 {
     match answer {
         Ok(counts) => put_rounds(out, b"renewed ", counts),
-        Err(refusal) => put_refusal(out, refusal),
+        Err(refusal) => put_refusal(out, refusal.number()),
     }
 }
 
@@ -83,7 +83,7 @@ pub fn put_lines(out: &mut [u8], answer: Result<Lines, Refusal>) -> usize
 {
     match answer {
         Ok(l) => put_each_line(out, l),
-        Err(refusal) => put_refusal(out, refusal),
+        Err(refusal) => put_refusal(out, refusal.number()),
     }
 }
 
@@ -93,7 +93,7 @@ pub fn put_form_read(out: &mut [u8], answer: Result<(), Refusal>) -> usize
 {
     match answer {
         Ok(()) => put_text(out, 0, b"read"),
-        Err(refusal) => put_refusal(out, refusal),
+        Err(refusal) => put_refusal(out, refusal.number()),
     }
 }
 
@@ -134,10 +134,11 @@ fn first_words(words: &[i16], n: usize) -> &[i16]
     &words[..n.min(words.len())]
 }
 
-pub fn put_refusal(out: &mut [u8], refusal: Refusal) -> usize
-    ensures { Puts out.old 0 (refusal_text (refusal_number refusal)) out.new result }
+// By number: CLAIMS promises a text for every number.
+pub fn put_refusal(out: &mut [u8], n: u16) -> usize
+    ensures { Puts out.old 0 (refusal_text n) out.new result }
 {
-    put_named(out, 0, b"refused ", refusal.number() as u64)
+    put_named(out, 0, b"refused ", n as u64)
 }
 
 // What can be wrong with a line.

@@ -24,4 +24,4 @@ returns-in-Err c =
     let base_places : length c.args.chart.base ≡ base_most = search rules in
     let series_places : length c.args.chart.series ≡ series_most = search rules in
     refusal_replied _ _ _ _ base_places series_places (search rules)
-    (rw c.in-Err.is at c.write-written.ensures) c.put_refusal.ensures
+    (rw c.in-Err.is at c.write-written.ensures) (rw c.number.ensures at c.put_refusal.ensures)

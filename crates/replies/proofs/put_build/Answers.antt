@@ -10,4 +10,4 @@ returns-in-Ok c built =
 pub returns-in-Err : goal.returns-in-Err
 unfolding build_says
 returns-in-Err c built =
-    rw c.in-Err.is c.put_refusal.ensures
+    rw c.in-Err.is (rw c.number.ensures at c.put_refusal.ensures)

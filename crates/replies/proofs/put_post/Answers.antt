@@ -19,4 +19,4 @@ returns-in-Ok c =
 pub returns-in-Err : goal.returns-in-Err
 unfolding post_says
 returns-in-Err c =
-    rw c.in-Err.is c.put_refusal.ensures
+    rw c.in-Err.is (rw c.number-in-Err.ensures at c.put_refusal.ensures)

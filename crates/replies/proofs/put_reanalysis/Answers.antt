@@ -9,4 +9,4 @@ returns-in-Ok c = rw c.in-Ok.is c.put_retested.ensures
 pub returns-in-Err : goal.returns-in-Err
 unfolding reanalysis_says
 returns-in-Err c =
-    rw c.in-Err.is c.put_refusal.ensures
+    rw c.in-Err.is (rw c.number.ensures at c.put_refusal.ensures)

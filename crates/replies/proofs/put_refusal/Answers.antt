@@ -4,4 +4,4 @@ use Rattle.replies.proofs.put_refusal.Goals as goal
 
 pub returns : goal.returns
 unfolding refusal_text
-returns c = rw (← c.number.ensures) c.put_named.ensures
+returns c = c.put_named.ensures

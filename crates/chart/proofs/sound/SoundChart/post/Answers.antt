@@ -72,7 +72,7 @@ gives c =
     let chart = c.add_word.ensures ∙ ap (λ (x : ℤ). chart_of (add_word s x)) word in
     let does =
     posted s c.in_ok-w.w (verdict_number c.verdict_on-verdict.result) c.status_for.result c.add_word.new.self
-    c.set_status.new.self v chart c.status_for.ensures (rw c.number.ensures at c.set_status.ensures) in
+    c.set_status.new.self v chart (rw c.number-number.ensures at c.status_for.ensures) (rw c.number-number.ensures at c.set_status.ensures) in
     word_read self sound call c.args.kind c.args.a c.args.b c.args.c (posting s) refl (sym c.in_ok-may_post.ensures)
     c.in_ok-w.w formed does
 
