@@ -11,7 +11,7 @@ In docs/CLAIMS.md every text in backticks is a name, of one of these forms:
                                         otherwise declared anywhere
     word W verdict V                    a command or an answer that `control_chart help` lists
 
-In the other documents only names that have a form of code are checked, and in docs/PORT.md and docs/DESIGN-PASS.md none.
+In the other documents only names that have a form of code are checked, and in docs/PORT.md, docs/DESIGN-PASS.md and docs/LOOK-BACK.md none.
 """
 
 import glob
@@ -24,8 +24,8 @@ import program
 CLAIMS = "docs/CLAIMS.md"
 LIBRARY = "docs/LIBRARY.md"
 
-# The records of the port to a newer Rattle and of its forms: they have names as they were beside names as they are.
-PORT = re.compile(r"docs/(?:PORT(?:-\w+)?|DESIGN-PASS)\.md")
+# The records of the port to a newer Rattle, of its forms and of the look back at them: they have names as they were beside names as they are.
+PORT = re.compile(r"docs/(?:PORT(?:-\w+)?|DESIGN-PASS|LOOK-BACK)\.md")
 
 # Other texts in backticks of CLAIMS, each with the reason why no declaration is asked for.
 OTHER = {
