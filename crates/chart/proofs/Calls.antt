@@ -28,6 +28,20 @@ use Rattle.chart.specs.Soundness.{sound_chart, HasRoom, HasLast}
 use Rattle.chart.specs.Calls.{next_chart, answer_to, Gives, Does, word_unless}
 use Rattle.chart.proofs.State.{Given, chart_of-state, series_count_lem, some_series, fresh_is}
 
+-- ---- a reading comes after the refusals that come first
+
+-- a number that is not 0 comes before the reading. If it is 0, the reading decides
+pub number_first : (n chart_kind kind : ℕ) (a b c : ℤ) → (n ≡ 0 → ⊥) → outcome.refused n ≡ word_unless n chart_kind kind a b c
+unfolding word_unless
+number_first zero chart_kind kind a b c ne = absurd (ne refl)
+number_first (suc n) chart_kind kind a b c ne = refl
+
+pub reading_then : (n chart_kind kind : ℕ) (a b c : ℤ) → n ≡ 0 → (f : Outcome ℤ) → f ≡ word_for chart_kind kind a b c
+    → f ≡ word_unless n chart_kind kind a b c
+unfolding word_unless
+reading_then zero chart_kind kind a b c z f e = e
+reading_then (suc n) chart_kind kind a b c z f e = absurd (omega arith)
+
 -- ---- one step of the machine
 
 declines : (s : State) (call : Call) (n : ℕ) → n ≡ refusal_for s call → (n ≡ 0 → ⊥) → step s call ≡ declined s n

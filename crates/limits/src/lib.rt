@@ -11,7 +11,7 @@
 
 mod bounded;
 
-ghost use Rattle.std.specs.Prelude.{◌≡◌, [], ◌∷◌, ◌≤◌, ◌<◌, length, pos};
+ghost use Rattle.std.specs.Prelude.{◌≡◌, [], ◌∷◌, ◌≤◌, ◌<◌, length, pos, nat_abs};
 ghost use Rattle.rules.specs.Sizes.{base_most};
 ghost use Rattle.rules.specs.Kind.{has_lower};
 ghost use Rattle.rules.specs.Limits as rules;
@@ -125,7 +125,7 @@ pub fn beyond(m: u8, l: Limits, w: i16) -> BeyondLimits
 {
     let s = l.sums;
     let d = scaled_deviation(s, w);
-    let far = exceeds(m, s, d);
+    let far = exceeds(m as u16, s, d);
     BeyondLimits {
         upper: (0 < d) & far,
         lower: has_lower(l.kind) & ((d < 0) & far),
@@ -141,7 +141,7 @@ pub fn has_lower(kind: u16) -> bool
 
 // Whether a deviation of d / n, up or down, is more than m·S.
 #[tactic(auto, unfolding(rules::specs::Limits::exceeds))]
-fn exceeds(m: u8, s: Sums, d: i64) -> bool
+fn exceeds(m: u16, s: Sums, d: i64) -> bool
     requires { Comparable m s d }
     ensures { result ≡ rules.exceeds m (sums_say s) d }
 {
@@ -151,7 +151,7 @@ fn exceeds(m: u8, s: Sums, d: i64) -> bool
 
 // Whether a deviation of d / n, up or down, is less than m·S.
 #[tactic(auto, unfolding(rules::specs::Limits::within))]
-fn within(m: u8, s: Sums, d: i64) -> bool
+fn within(m: u16, s: Sums, d: i64) -> bool
     requires { Comparable m s d }
     ensures { result ≡ rules.within m (sums_say s) d }
 {
@@ -161,12 +161,12 @@ fn within(m: u8, s: Sums, d: i64) -> bool
 
 // d²·(n − 1) and m²·n·V, which are compared in place of d / n and m·S.
 #[tactic(auto, using(crate::proofs::Comparison::nv_fits))]
-fn squares_of(m: u8, s: Sums, d: i64) -> Squares
+fn squares_of(m: u16, s: Sums, d: i64) -> Squares
     requires { Comparable m s d }
     ensures { AreSquares m (sums_say s) d result }
 {
     let multiple = u64::from(m);
-    let a = d.unsigned_abs();
+    let a = magnitude(d);
     // Without words n − 1 counts as 0, and both sides are 0.
     let deviation = a * a * s.n.saturating_sub(1);
     let limit = multiple * multiple * (s.n * v_of(s));
@@ -179,7 +179,7 @@ pub fn v_of(s: Sums) -> u64
     requires { Bounded s }
     ensures { pos result ≡ rules.v_of (sums_say s) }
 {
-    let a = s.t.unsigned_abs();
+    let a = magnitude(s.t);
     s.n * s.q - a * a
 }
 
@@ -218,6 +218,13 @@ pub fn without_word(s: Sums, w: i16) -> Sums
 fn square(w: i16) -> u64
     ensures { result ≡ rules.square_of w }
 {
-    let a = u64::from(w.unsigned_abs());
+    let a = magnitude(i64::from(w));
     a * a
+}
+
+// The absolute value.
+pub fn magnitude(z: i64) -> u64
+    ensures { result ≡ nat_abs z }
+{
+    z.unsigned_abs()
 }

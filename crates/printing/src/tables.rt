@@ -1,6 +1,4 @@
 // Texts in a table: one after the other, each with a line feed after it. They are counted from 0.
-//
-// No other crate calls these functions. They stay: the contract of `put_text_of` and the law of a table are fixed (`docs/CLAIMS.md`).
 ghost use Rattle.std.specs.Prelude.{◌≡◌, ◌-◌, ◌<◌, eqb, drop};
 ghost use Rattle.rules.specs.Choice.{choose};
 ghost use Rattle.printing.specs.Output.{Puts};

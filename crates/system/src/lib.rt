@@ -15,11 +15,28 @@ use std::os::unix::fs::MetadataExt;
 use std::time::Duration;
 use std::{fs, io, thread};
 
+// What `access` asks: whether there is a file, and whether this user may run, write or read it.
+pub const F_OK: i32 = 0;
+
+pub const X_OK: i32 = 1;
+
+pub const W_OK: i32 = 2;
+
+pub const R_OK: i32 = 4;
+
 // How long a pause is, in nanoseconds.
 const PAUSE: u64 = 5000000;
 
 // The permissions are the low twelve bits of a mode. The other bits say what kind of file it is.
 const PERMISSIONS: u32 = 0o10000;
+
+// The bits of a mode by which its owner, its group or others may run a file.
+const RUN: u32 = 0o111;
+
+// The system's numbers of errors.
+const NOT_PERMITTED: i32 = 13;
+
+const INVALID: i32 = 22;
 
 // The permissions, owner and group of a file.
 #[derive(Clone, Copy)]
@@ -52,23 +69,45 @@ pub fn pause(rt: HostRuntime) {
     thread::sleep(&rt, Duration::from_nanos(PAUSE));
 }
 
+// Whether this user may do with a file what `mode` asks. If not, the error is the reason.
+pub fn access(rt: HostRuntime, path: &[u8], mode: i32) -> io::Result<()>
+    ensures { 4096 ≤ length path.now → IsErr result }
+{
+    let status = status(rt, path)?;
+    let path = ended(path);
+    permits(rt, text_before_0(&path)?, &status, mode)
+}
+
 // Whether the path leads to a file, of any kind.
 pub fn exists(rt: HostRuntime, path: &[u8]) -> bool
     ensures { 4096 ≤ length path.now → result ≡ false }
 {
-    status(rt, path).is_ok()
+    access(rt, path, F_OK).is_ok()
 }
 
-// Whether this user may write a file. If not, the error is the reason. Tries to open a regular file. Any other is not opened, because
-// opening a pipe waits, and it counts as permitted.
+// Whether this user may write a file. If not, the error is the reason.
 pub fn may_write(rt: HostRuntime, path: &[u8]) -> io::Result<()>
     ensures { 4096 ≤ length path.now → IsErr result }
 {
-    if status(rt, path)?.is_file() {
-        let path = ended(path);
-        OpenOptions::new()
-            .write(true)
-            .open(&rt, text_before_0(&path)?)?;
+    access(rt, path, W_OK)
+}
+
+// Tries to open a regular file. Any other is not opened, because opening a pipe waits, and it counts as permitted.
+fn permits(rt: HostRuntime, name: &str, status: &Metadata, mode: i32) -> io::Result<()> {
+    if mode & !(R_OK | W_OK | X_OK) != 0 {
+        return Err(io::Error::from_raw_os_error(INVALID));
+    }
+    if !status.is_file() {
+        return Ok(());
+    }
+    if mode & R_OK != 0 {
+        File::open(&rt, name)?;
+    }
+    if mode & W_OK != 0 {
+        OpenOptions::new().write(true).open(&rt, name)?;
+    }
+    if mode & X_OK != 0 && status.mode() & RUN == 0 {
+        return Err(io::Error::from_raw_os_error(NOT_PERMITTED));
     }
     Ok(())
 }

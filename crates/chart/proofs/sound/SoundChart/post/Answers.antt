@@ -16,7 +16,7 @@ use Rattle.chart.specs.Chart.{state_of, chart_of}
 use Rattle.chart.specs.Calls.{Gives, post_says}
 use Rattle.chart.proofs.State as state
 use Rattle.chart.proofs.State.{Given}
-use Rattle.chart.proofs.Calls.{call_declined, reading_refused, word_read, has_room, posted}
+use Rattle.chart.proofs.Calls.{number_first, reading_then, reading, word_read, has_room, posted}
 use Rattle.chart.proofs.StaysSound.{stays_sound}
 use Rattle.chart.proofs.sound.SoundChart.post.Goals as goal
 
@@ -27,7 +27,8 @@ returns-in_err-may_post c =
     let sound : Given self = state.given self (search rules) (search rules) c.args.self.now.sound in
     let call : Call = post c.args.kind c.args.a c.args.b c.args.c in
     let same : c.from_residual.result ≡ Err c.in_err-may_post.field-0.0 = search rules in
-    rw same (call_declined self sound call _ c.in_err-may_post.ensures (refusal_not_0 _))
+    let first = number_first (refusal_number c.in_err-may_post.field-0.0) (state_of self).kind c.args.kind c.args.a c.args.b c.args.c (refusal_not_0 _) in
+    rw same (reading self sound call c.args.kind c.args.a c.args.b c.args.c (posting (state_of self)) refl _ (refused _) c.in_err-may_post.ensures first)
 
 pub returns-in_err-w : goal.returns-in_err-w
 unfolding post_says answered_number result_says state_of
@@ -38,9 +39,8 @@ returns-in_err-w c =
     let same : c.from_residual-in_err-w.result ≡ Err c.in_err-w.field-0.0 = search rules in
     let formed : refused (refusal_number c.in_err-w.field-0.0) ≡ word_for self.kind c.args.kind c.args.a c.args.b c.args.c =
     rw (to_z-of_z c.ranges.a, to_z-of_z c.ranges.b, to_z-of_z c.ranges.c) at c.in_err-w.ensures in
-    rw same
-    (reading_refused self sound call c.args.kind c.args.a c.args.b c.args.c (posting (state_of self)) refl
-    (sym c.in_ok-may_post.ensures) _ formed)
+    let then = reading_then 0 (state_of self).kind c.args.kind c.args.a c.args.b c.args.c refl (refused _) formed in
+    rw same (reading self sound call c.args.kind c.args.a c.args.b c.args.c (posting (state_of self)) refl 0 (refused _) c.in_ok-may_post.ensures then)
 
 pub verdict_on-verdict-requires : goal.verdict_on-verdict-requires
 unfolding answered_number
