@@ -30,10 +30,10 @@ use Rattle.store.specs.HeldChart.{IsHeld}
 use Rattle.store.specs.Store.{answer_to_write, buffer_after_write, Writes}
 use Rattle.chart_c.specs.Lent.{lent_after}
 use Rattle.chart_c.specs.Answers.{Parts, answer_outcome}
-use Rattle.chart_c.specs.Forms.{Answered, front_start, if_room, kept_in, LeavesChart, parts_in, KeepsChart}
+use Rattle.chart_c.specs.Forms.{Answered, front_start, if_room, kept_in, parts_in, KeepsChart}
 use Rattle.chart_c.specs.Calls.{called, kind_passed, Leaves}
 use Rattle.chart_c.proofs.SameKind.{same_post, same_reanalysis}
-use Rattle.chart_c.proofs.Places.{parts_of}
+use Rattle.chart_c.proofs.Places.{parts_of, with_parts, leaves, leaves_parts}
 use Rattle.chart_c.proofs.Held.{Taken, from_front, held_taken, not_held, then_taken}
 
 -- ---- a refused call leaves everything as it was
@@ -43,20 +43,15 @@ pub keeps_declined : {A : Type 0} (o : Outcome (Answered A)) (before : List ℕ)
 unfolding result_says parts_in lent_after
 keeps_declined o before size r e = rw e (record { chart = record { buffer = refl; count = refl }; says = refl })
 
-leaves_declined : (o : Outcome (Answered Parts)) (before : List ℕ) (size n : ℕ) → o ≡ refused n
-    → (Places : Outcome Parts → Type 0) → Places (refused n) → Leaves o before before size size Places
-unfolding parts_in lent_after
-leaves_declined o before size n e Places p = rw e (record { chart = record { buffer = refl; count = refl }; places = p })
-
 -- ---- what `keep` gives for the two answers of writing, with room and without
 
-module _ {A : Type 0} (s : State) (before after : List ℕ) (parts : A) (size : ℕ) where
-  abbrev put_if : Bool → Outcome (Answered A)
-  put_if room = require room (refused 15) (given (record { state = s; parts = parts }))
+abbrev put_if : {A : Type 0} → State → A → Bool → Outcome (Answered A)
+put_if s parts room = require room (refused 15) (given (record { state = s; parts = parts }))
 
+module _ {A : Type 0} (s : State) (before after : List ℕ) (parts : A) (size : ℕ) where
   done_by : (n : ℕ) (room : Bool) → given n ≡ require room (refused 15) (given (length (stored_form s)))
       → after ≡ require room before (at_front (stored_form s) before)
-      → KeepsChart (put_if room) before after size n (Ok parts)
+      → KeepsChart (put_if s parts room) before after size n (Ok parts)
   unfolding result_says parts_in lent_after
   done_by n true e put =
       record { chart = record { buffer = put; count = cc }; says = refl }
@@ -64,7 +59,7 @@ module _ {A : Type 0} (s : State) (before after : List ℕ) (parts : A) (size : 
 
   declined_by : (r : Refusal) (room : Bool) → refused (refusal_number r) ≡ require room (refused 15) (given (length (stored_form s)))
       → after ≡ require room before (at_front (stored_form s) before)
-      → KeepsChart (put_if room) before after size size (Err r)
+      → KeepsChart (put_if s parts room) before after size size (Err r)
   unfolding result_says parts_in lent_after
   declined_by r true e put = given_not_refused (sym e)
   declined_by r false e put =
@@ -85,37 +80,20 @@ module _ {A : Type 0} (c : Chart) (t : sound_chart c ≡ true) (before after : L
 -- ---- a chart that was kept, with the parts that its answer stands for
 
 module _ {A : Type 0} (parts : A → Parts) (buffer : List ℕ) (s : State) where
-  abbrev with_parts : {B : Type 0} → Bool → B → Outcome (Answered B)
-  with_parts room x = require room (refused 15) (given (record { state = s; parts = x }))
-
-  room_parts : (room : Bool) (x : A) → parts_of parts (parts_in (with_parts room x)) ≡ parts_in (with_parts room (parts x))
-  unfolding parts_in
+  room_parts : (room : Bool) (x : A) → with_parts parts (put_if s x room) ≡ put_if s (parts x) room
   room_parts true x = refl
   room_parts false x = refl
 
-  kept_parts : (o : Outcome A) → parts_of parts (parts_in (kept_in buffer s o)) ≡ parts_in (kept_in buffer s (parts_of parts o))
-  unfolding if_room parts_in
+  kept_parts : (o : Outcome A) → with_parts parts (kept_in buffer s o) ≡ kept_in buffer s (parts_of parts o)
+  unfolding if_room
   kept_parts (given x) = room_parts (form_fits s buffer) x
   kept_parts (refused n) = refl
 
-  module _ {before after : List ℕ} {size size' : ℕ} where
-    room_leaves : (room : Bool) (x : A) → LeavesChart (with_parts room x) before after size size'
-        → LeavesChart (with_parts room (parts x)) before after size size'
-    unfolding lent_after
-    room_leaves true x l = record { buffer = l.buffer; count = l.count }
-    room_leaves false x l = record { buffer = l.buffer; count = l.count }
-
-    kept_leaves : (o : Outcome A) → LeavesChart (kept_in buffer s o) before after size size'
-        → LeavesChart (kept_in buffer s (parts_of parts o)) before after size size'
-    unfolding if_room lent_after
-    kept_leaves (given x) l = room_leaves (form_fits s buffer) x l
-    kept_leaves (refused n) l = record { buffer = l.buffer; count = l.count }
-
-    pub kept_as : (o : Outcome A) {r : Result A Refusal} → KeepsChart (kept_in buffer s o) before after size size' r
-        → (Places : Outcome Parts → Type 0) → Places (parts_of parts (result_says r))
-        → Leaves (kept_in buffer s (parts_of parts o)) before after size size' Places
-    kept_as o k Places p =
-        record { chart = kept_leaves o k.chart; places = rw (ap (λ (x : Outcome A). parts_of parts x) k.says ∙ kept_parts o) at p }
+  pub kept_as : {before after : List ℕ} {size size' : ℕ} (o : Outcome A) {r : Result A Refusal}
+      → KeepsChart (kept_in buffer s o) before after size size' r
+      → (Places : Outcome Parts → Type 0) → Places (parts_of parts (result_says r))
+      → Leaves (kept_in buffer s (parts_of parts o)) before after size size' Places
+  kept_as o k Places p = rw (kept_parts o) at (leaves parts Places k p)
 
 -- ---- the library makes a call with the kind of sixteen bits. It gives what the call with the kind that was passed gives
 
@@ -154,9 +132,10 @@ module _ (buffer : List ℕ) (size : ℕ) (call : Call) where
   -- the bytes are refused
   pub not_called : (r : Refusal) → IsHeld (front_start buffer size) (Err r) → (Places : Outcome Parts → Type 0)
       → Places (refused (refusal_number r)) → Leaves (called buffer size call) buffer buffer size size Places
-  unfolding called
-  not_called r is =
-      leaves_declined (called buffer size call) buffer size (refusal_number r) (not_held (front_start buffer size) r is stepped)
+  unfolding called result_says
+  not_called r is Places p =
+      let kept = keeps_declined (called buffer size call) buffer size r (not_held (front_start buffer size) r is stepped) in
+      leaves_parts Places kept p
 
   module _ {c : SoundChart} (held : IsHeld (front_start buffer size) (Ok c)) {next : Chart} {said : Answer}
       (gives : Gives c.chart call next said) where
