@@ -3,8 +3,7 @@ use mathlib.Core.Path.{◌≡◌, refl}
 use borrow.Author.Rules.{rules}
 use Rattle.std.specs.Prelude.{Err}
 use Rattle.refusals.specs.Refusal.{answered_number, result_says}
-use Rattle.chart.proofs.StaysSound.{built_is_sound}
-use Rattle.chart_c.proofs.Building.{build_leaves}
+use Rattle.chart_c.proofs.Building.{sound_if_built, build_leaves}
 use Rattle.chart_c.proofs.Kept.{keeps_declined}
 use Rattle.chart_c.proofs.Places.{filled, not_filled}
 use Rattle.chart_c.proofs.calls.build.Goals as goal
@@ -18,7 +17,7 @@ returns-in_err-made c =
     _ not_filled)
 
 pub invariant_of-keep : goal.invariant_of-keep
-invariant_of-keep c = record { sound = built_is_sound _ _ _ c.build-built.ensures c.in_ok-made.was }
+invariant_of-keep c = record { sound = sound_if_built _ _ _ c.build-built.ensures c.in_ok-made.was }
 
 pub returns-in_err-counts : goal.returns-in_err-counts
 unfolding answered_number result_says
