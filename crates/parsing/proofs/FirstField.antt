@@ -1,6 +1,6 @@
 -- The first field of a text: blanks before it do not count (`fields_after_blanks`), it ends at the first blank after it or with the text
--- (`field_end`), and a run of other bytes that ends so is a field (`fields_of_run`). Joined, they are the first field and what
--- follows it (`field_split`).
+-- (`field_end`), and a run of other bytes that ends so is a field (`fields_of_run`). Joined, they are the first field by its places
+-- (`first_field_lem`). The field and what follows it, as slices (`field_split`, `split_places`).
 use mathlib.Core.Path.{◌≡◌, refl, sym, ap, ◌∙◌}
 use mathlib.Core.Bool.{Bool, true, false, not, false≢true}
 use mathlib.Core.List.{List, [], ◌∷◌}
@@ -16,7 +16,7 @@ use Rattle.std.specs.Option.{unwrap_or}
 use Rattle.std.proofs.lemmas.List.Sums.{fails_before_first, passes_at_first, prefix_len-le-length}
 use Rattle.rules.proofs.Integers.{by_order}
 use Rattle.rules.proofs.Booleans.{by_test}
-use Rattle.parsing.specs.Fields.{is_blank, in_front, fields_of, between, IsFirstField, IsSplit, AfterBlanks, AfterField}
+use Rattle.parsing.specs.Fields.{is_blank, in_front, fields_of, between, IsFirstField, IsSplit, SplitAt, AfterBlanks, AfterField}
 
 -- ---- the first blank
 
@@ -103,7 +103,7 @@ module _ {text : List ℕ} {start end : ℕ} (blanks : AfterBlanks text start) (
       (λ past. rw (drop_of_length-le text past))
       (λ within. absurd (false≢true (sym (blanks.stops within) ∙ (rw same at field.stops) within)))
 
-  first_field_lem : IsFirstField text start end
+  pub first_field_lem : IsFirstField text start end
   first_field_lem =
       let from_start = fields_after_blanks text start blanks.within blanks.blank in
       record {
@@ -117,24 +117,31 @@ module _ {text : List ℕ} {start end : ℕ} (blanks : AfterBlanks text start) (
             (λ some. rw (lt-ltb start end some) (field_there some));
       }
 
-  -- the field and what follows it, as slices
+-- ---- the field and what follows it, as slices
+
+module _ {text : List ℕ} {start end : ℕ} (found : IsFirstField text start end) where
+  -- a slice from `end` on is all that follows
+  rest_whole : take (length text - end) (drop end text) ≡ drop end text
+  rest_whole = take_all _ _ (omega (arith, length-drop end text))
+
   pub field_split : IsSplit text (between start end text) (take (length text - end) (drop end text))
   field_split =
-      let found = first_field_lem in
       let behind = length-drop start text in
       let size : length (between start end text) ≡ end - start =
-      length-take-le (end - start) (drop start text) (omega (arith, field.within)) in
+      length-take-le (end - start) (drop start text) (omega (arith, found.within)) in
       let left = length-drop end text in
-      let whole : take (length text - end) (drop end text) ≡ drop end text = take_all _ _ (omega arith) in
-      rw whole (record {
+      rw rest_whole (record {
         some = λ more. let inside : start < end = omega (arith, size) in rw (lt-ltb start end inside) at found.fields;
         none =
             λ empty.
-            let same : end ≡ start = omega (arith, size, field.ordered) in
+            let same : end ≡ start = omega (arith, size, found.ordered) in
             let past : length text ≤ end =
             by_order end (length text)
             (λ past. past)
-            (λ within. absurd (false≢true (sym (blanks.stops (omega arith)) ∙ (rw same at field.stops) (omega arith)))) in
+            (λ within. absurd (false≢true (sym (found.from.stops (omega arith)) ∙ (rw same at found.to.stops) (omega arith)))) in
             (rw (le-ltb start end (omega arith)) at found.fields, drop_of_length-le text past);
-        shorter = omega (arith, size, field.within, field.ordered);
+        shorter = omega (arith, size, found.within, found.ordered);
       })
+
+  pub split_places : SplitAt text (between start end text) (take (length text - end) (drop end text))
+  split_places = record { start = start; end = end; first = found; field_is = refl; rest_is = rest_whole }

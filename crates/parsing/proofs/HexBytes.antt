@@ -1,7 +1,7 @@
 -- The bytes of hex digits put into a buffer, one for each pair of digits (`BytesPut`).
 use mathlib.Core.Path.{◌≡◌, refl, sym, ap, ◌∙◌}
 use mathlib.Core.List.{List, [], ◌∷◌, ◌++◌, append_assoc, append-nil}
-use Prim.Native.Nat.{ℕ, ◌+◌, ◌*◌, ◌/◌, ◌<◌, ◌≤◌}
+use Prim.Native.Nat.{ℕ, zero, suc, ◌+◌, ◌*◌, ◌/◌, ◌<◌, ◌≤◌}
 use native.Mathlib.Omega.{arith}
 use lib.ListN.{length, set, get_or, length-append}
 use Rattle.rules.specs.Buffer.{Placed}
@@ -14,6 +14,18 @@ unfolding bytes_of_hex
 bytes_length [] = refl
 bytes_length (h ∷ []) = refl
 bytes_length (h ∷ l ∷ rest) = omega (arith, bytes_length rest)
+
+-- the byte at i is that of the digits at 2·i and 2·i + 1
+byte_at : (text : List ℕ) (i : ℕ) → i < length text / 2
+    → hex_value (get_or text (2 * i) 0) * 16 + hex_value (get_or text (2 * i + 1) 0) ≡ get_or (bytes_of_hex text) i 0
+unfolding bytes_of_hex
+byte_at [] i more = absurd (omega arith)
+byte_at (h ∷ []) i more = absurd (omega arith)
+byte_at (h ∷ l ∷ rest) zero more = refl
+byte_at (h ∷ l ∷ rest) (suc i) more =
+    let first : 2 * suc i ≡ suc (suc (2 * i)) = omega arith in
+    let second : 2 * suc i + 1 ≡ suc (suc (2 * i + 1)) = omega arith in
+    rw (second, first) (byte_at rest i (omega arith))
 
 -- a digit alone is left out
 bytes_none : (left : List ℕ) → length left < 2 → bytes_of_hex left ≡ []

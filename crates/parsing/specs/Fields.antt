@@ -52,6 +52,14 @@ pub record IsSplit (text field rest : List ℕ) : Type 0 where
   pub none : length field ≡ 0 → (fields_of text ≡ []) × (rest ≡ [])
   pub shorter : length field + length rest ≤ length text
 
+-- `field` is the first field of the text by its places, and `rest` is all that follows it, from the byte after its last on
+pub record SplitAt (text field rest : List ℕ) : Type 0 where
+  pub start : ℕ
+  pub end : ℕ
+  pub first : IsFirstField text start end
+  pub field_is : field ≡ between start end text
+  pub rest_is : rest ≡ drop end text
+
 -- a line without a carriage return at its end
 unfoldable pub without_return : List ℕ → List ℕ
 without_return [] = []

@@ -1,15 +1,31 @@
 // The fields of a line: the longest runs of bytes that are not blanks.
 ghost use Rattle.std.specs.Prelude.{◌≡◌, ◌≤◌, length};
 ghost use Rattle.parsing.specs.Bytes.{same_bytes};
-ghost use Rattle.parsing.specs.Fields.{is_blank, IsSplit, AfterBlanks, AfterField, IsWithoutReturn};
+ghost use Rattle.parsing.specs.Fields.{is_blank, IsFirstField, IsSplit, SplitAt, AfterBlanks, AfterField, IsWithoutReturn};
 
-// The first field, and what follows it. If there is no field, both are empty.
-pub fn split_field(text: &[u8]) -> (&[u8], &[u8])
-    ensures { IsSplit text.now result.0.now result.1.now }
+// The place of a field: its first byte, and the byte after its last.
+#[derive(Clone, Copy)]
+pub struct Field {
+    pub start: usize,
+    pub end: usize,
+}
+
+// The first field. If there is none, start and end are the same.
+pub fn first_field(text: &[u8]) -> Field
+    ensures { IsFirstField text.now result.start result.end }
 {
     let start = after_blanks(text);
     let end = after_field(text, start);
-    (&text[start..end], &text[end..])
+    Field { start, end }
+}
+
+// The first field, and what follows it. If there is no field, both are empty.
+pub fn split_field(text: &[u8]) -> (&[u8], &[u8])
+    ensures split { IsSplit text.now result.0.now result.1.now }
+    ensures places { SplitAt text.now result.0.now result.1.now }
+{
+    let field = first_field(text);
+    (&text[field.start..field.end], &text[field.end..])
 }
 
 // How many bytes a line has without a carriage return at its end.

@@ -1,6 +1,6 @@
 -- `parsing::fields::split_field` meets its contract.
-use Rattle.parsing.proofs.FirstField.{field_split}
+use Rattle.parsing.proofs.FirstField.{field_split, split_places}
 use Rattle.parsing.proofs.fields.split_field.Goals as goal
 
 pub returns : goal.returns
-returns c = field_split c.after_blanks-start.ensures c.after_field-end.ensures
+returns c = let field = c.first_field-field.ensures in record { split = field_split field; places = split_places field }
