@@ -1,15 +1,17 @@
--- The fields of a line: the first field (`first_is`), those after it (`rest_is`), the number in it (`number_is`), whether it begins a
--- comment (`comment_is`, `comment_found`), and four numbers one after the other (`readings_found`).
+-- The fields of a line: the first field (`first_is`), those after it (`rest_is`), the number in it (`number_is`), its places
+-- (`places_count`, `first_byte`), whether it begins a comment (`comment_is`, `comment_found`), and four numbers one after the other
+-- (`readings_found`).
 use mathlib.Core.Path.{◌≡◌, refl, ap, ◌∙◌}
 use mathlib.Core.List.{List, [], ◌∷◌}
-use Prim.Native.Nat.{ℕ, suc, ◌-◌, ◌<◌, ◌≤◌}
+use Prim.Native.Nat.{ℕ, suc, ◌+◌, ◌-◌, ◌<◌, ◌≤◌}
 use native.Mathlib.Omega.{arith}
 use borrow.Author.Tests.{lt-ltb, le-ltb}
-use lib.ListN.{length, drop, get_or}
-use lib.Seq.{drop-cons, drop-drop}
+use lib.ListN.{length, take, drop, get_or, length-drop}
+use lib.Seq.{drop-cons, drop-drop, get_or-drop, length-take-le}
 use lib.Dec.{eqb}
 use lib.IntN.{ℤ}
-use Rattle.parsing.specs.Fields.{fields_of, between, IsFirstField, IsSplit}
+use Rattle.std.proofs.lemmas.List.{get_or-take}
+use Rattle.parsing.specs.Fields.{fields_of, between, IsFirstField, IsSplit, SplitAt}
 use Rattle.parsing.specs.Number.{number_in_field, kind_in_field, reading_in_field}
 use Rattle.commands.specs.Command.{first_field, first_number, is_comment}
 use Rattle.commands.specs.Answers.{AreReadings}
@@ -46,6 +48,21 @@ module _ {text : List ℕ} {start end : ℕ} (field : IsFirstField text start en
   pub comment_found : start < end → is_comment (between start end text) ≡ eqb (get_or text start 0) 35
   comment_found some =
       comment_by some (get_or text start 0) (drop (suc start) text) (drop-cons text start 0 (omega (arith, field.within)))
+
+-- the first field that was split off, and its places
+module _ {text first rest : List ℕ} (split : SplitAt text first rest) where
+  pub places_count : length first ≡ split.end - split.start
+  places_count =
+      let field = split.first in
+      let behind = length-drop split.start text in
+      rw split.field_is (length-take-le (split.end - split.start) (drop split.start text) (omega (arith, field.within)))
+
+  pub first_byte : 0 < length first → get_or first 0 0 ≡ get_or text split.start 0
+  first_byte some =
+      let place : split.start + 0 ≡ split.start = omega arith in
+      let inside : 0 < split.end - split.start = omega (arith, places_count) in
+      rw split.field_is (get_or-take (split.end - split.start) (drop split.start text) 0 0 inside
+      ∙ (rw place at (get_or-drop split.start text 0 0)))
 
 -- the field's first byte
 pub comment_is : (field : List ℕ) → 0 < length field → is_comment field ≡ eqb (get_or field 0 0) 35

@@ -9,7 +9,7 @@ use borrow.Author.Tests.{lt-leb, le-leb}
 use lib.ListN.{length, get_or}
 use lib.Dec.{eqb}
 use Rattle.chart.specs.declared.Chart.{Chart}
-use Rattle.parsing.specs.Fields.{fields_of, IsFirstField, IsSplit}
+use Rattle.parsing.specs.Fields.{fields_of, IsFirstField, IsSplit, SplitAt}
 use Rattle.printing.specs.Output.{Puts}
 use Rattle.printing.proofs.Putting.{puts_none, puts_then}
 use Rattle.replies.specs.declared.Fault.{Fault}
@@ -20,7 +20,7 @@ use Rattle.std.specs.Prelude.{Ok, Err}
 use Rattle.commands.specs.Command.{Finding, passed_over, faulty, line_most, command_for, fault_for, name_in, named_line, line_of, line_in}
 use Rattle.commands.specs.Reply.{reply_to_line, answer_to_line}
 use Rattle.commands.specs.Answers.{Answers, Replies}
-use Rattle.commands.proofs.Fields.{none_found, one_found, comment_found, comment_is}
+use Rattle.commands.proofs.Fields.{none_found, one_found, comment_found, places_count, first_byte, comment_is}
 
 pub too_long : (text : List ℕ) → line_most < length text → line_in text ≡ faulty faults.LineTooLong
 unfolding line_in
@@ -41,16 +41,17 @@ module _ (text : List ℕ) (start end : ℕ) (short : length text ≤ line_most)
   a_comment some e = by_fields text short ∙ ap line_of (one_found f some) ∙ rw (comment_found f some, e)
 
 -- by the first field itself
-module _ (text first rest : List ℕ) (short : length text ≤ line_most) (split : IsSplit text first rest) where
-  pub nothing_there : length first ≡ 0 → line_in text ≡ passed_over
-  unfolding line_of
-  nothing_there none = by_fields text short ∙ ap line_of (split.none none).0
+module _ (text first rest : List ℕ) (short : length text ≤ line_most) where
+  module _ (split : SplitAt text first rest) where
+    pub nothing_there : length first ≡ 0 → line_in text ≡ passed_over
+    nothing_there none =
+        no_field text split.start split.end short split.first (omega (arith, places_count split, split.first.ordered))
 
-  module _ (some : 0 < length first) where
-    pub comment_there : eqb (get_or first 0 0) 35 ≡ true → line_in text ≡ passed_over
-    unfolding line_of
-    comment_there e = by_fields text short ∙ ap line_of (split.some some) ∙ rw (comment_is first some, e)
+    pub comment_there : 0 < length first → eqb (get_or first 0 0) 35 ≡ true → line_in text ≡ passed_over
+    comment_there some e =
+        a_comment text split.start split.end short split.first (omega (arith, places_count split)) (rw (first_byte split some) at e)
 
+  module _ (split : IsSplit text first rest) (some : 0 < length first) where
     -- a command, by its name and the fault of the fields after it
     module _ (e : eqb (get_or first 0 0) 35 ≡ false) (n : Name) (named : n ≡ name_in first)
         (found : Finding) (is_found : found ≡ fault_for n (fields_of rest)) where

@@ -21,8 +21,8 @@ pub fn first_field(text: &[u8]) -> Field
 
 // The first field, and what follows it. If there is no field, both are empty.
 pub fn split_field(text: &[u8]) -> (&[u8], &[u8])
-    ensures split { IsSplit text.now result.0.now result.1.now }
     ensures places { SplitAt text.now result.0.now result.1.now }
+    ensures split { IsSplit text.now result.0.now result.1.now }
 {
     let field = first_field(text);
     (&text[field.start..field.end], &text[field.end..])

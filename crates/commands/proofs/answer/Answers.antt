@@ -14,25 +14,25 @@ returns-then-line-gt-LINE_MOST c = rw (too_long _ c.if-line-gt-LINE_MOST.true) c
 pub returns-then-is_empty : goal.returns-then-is_empty
 returns-then-is_empty c =
     let short = c.if-line-gt-LINE_MOST.false in
-    let split = c.split_field.ensures in
+    let places = c.split_field.ensures.places in
     elim c.then-is_empty.branch [
       | then-is_empty-via-then-is_empty w ↦
           let none : length c.split_field.result.0.now ≡ 0 = search (rules, tests) in
-          nothing_said _ _ (nothing_there _ _ _ short split none)
+          nothing_said _ _ (nothing_there _ _ _ short places none)
       | then-is_empty-via-else-is_empty+then-first-eq35 w ↦
           let some : 0 < length c.split_field.result.0.now = search (rules, tests) in
-          nothing_said _ _ (comment_there _ _ _ short split some (eq-eqb _ _ w.if-first-eq35.true))
+          nothing_said _ _ (comment_there _ _ _ short places some (eq-eqb _ _ w.if-first-eq35.true))
     ]
 
 pub returns-in-Err : goal.returns-in-Err
 returns-in-Err c =
     let some : 0 < length c.split_field.result.0.now = search (rules, tests) in
-    rw (a_fault _ _ _ c.if-line-gt-LINE_MOST.false c.split_field.ensures some (ne_eqb _ _ c.if-first-eq35.false) _
+    rw (a_fault _ _ _ c.if-line-gt-LINE_MOST.false c.split_field.ensures.split some (ne_eqb _ _ c.if-first-eq35.false) _
     c.name_in-name.ensures _ c.fault_for-found.ensures c.in-Err.is) c.answer_fault-in-Err.ensures
 
 pub returns-in-Ok : goal.returns-in-Ok
 returns-in-Ok c =
     let some : 0 < length c.split_field.result.0.now = search (rules, tests) in
-    rw (without_fault _ _ _ c.if-line-gt-LINE_MOST.false c.split_field.ensures some (ne_eqb _ _ c.if-first-eq35.false)
+    rw (without_fault _ _ _ c.if-line-gt-LINE_MOST.false c.split_field.ensures.split some (ne_eqb _ _ c.if-first-eq35.false)
     _ c.name_in-name.ensures _ c.fault_for-found.ensures c.in-Ok.is)
     (line_fed _ _ _ c.perform-r.ensures c.put_byte-size.ensures)

@@ -17,7 +17,7 @@ slice_bounds-build-end c =
 
 pub returns : goal.returns
 returns c =
-    let split = c.split_field.ensures in
+    let split = c.split_field.ensures.split in
     let is_kind_lem = c.kind_in_field.ensures ∙ ap kind_in_field (c.number_in_field.ensures ∙ number_is _ split) in
     let are_words = front_is c.put_words-n.ensures ∙ ap words_in (rest_is _ split) in
     replies_build c.args.chart _ _ c.build-r.result (builds_same is_kind_lem are_words c.build-r.ensures)

@@ -11,4 +11,4 @@ use Rattle.commands.proofs.is_build.Goals as goal
 pub returns : goal.returns
 unfolding is_build
 returns c =
-    c.same_bytes.ensures ∙ ap (λ (x : List ℕ). same_bytes x (ascii "build")) (first_is _ c.split_field.ensures)
+    c.same_bytes.ensures ∙ ap (λ (x : List ℕ). same_bytes x (ascii "build")) (first_is _ c.split_field.ensures.split)

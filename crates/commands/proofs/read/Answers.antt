@@ -18,7 +18,7 @@ slice_bounds-read-end c = front_counted c.put_bytes_of_hex-n.ensures
 
 pub returns : goal.returns
 returns c =
-    let bytes = front_is c.put_bytes_of_hex-n.ensures ∙ ap bytes_of_hex (first_is _ c.split_field.ensures) in
+    let bytes = front_is c.put_bytes_of_hex-n.ensures ∙ ap bytes_of_hex (first_is _ c.split_field.ensures.split) in
     replies_read c.args.chart _ c.read-r.result
     (subst (λ (b : List ℕ). IsRead (reading b) c.read-r.result) bytes c.read-r.ensures)
     c.chart_kept.ensures (c.put_form_read-size.ensures _)

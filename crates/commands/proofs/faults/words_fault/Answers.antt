@@ -9,7 +9,7 @@ use Rattle.commands.proofs.FirstFault.{faults_start, fault_here, faults_more, fa
 use Rattle.commands.proofs.faults.words_fault.Goals as goal
 
 pub loop-field-init : goal.loop-field-init
-loop-field-init c = faults_start c.split_field.ensures
+loop-field-init c = faults_start c.split_field.ensures.split
 
 pub returns-in_err-number_fault : goal.returns-in_err-number_fault
 returns-in_err-number_fault c =
@@ -20,12 +20,12 @@ returns-in_err-number_fault c =
 pub loop-field-smaller : goal.loop-field-smaller
 loop-field-smaller c =
     let some : 0 < length c.loop-field.field.now = search (rules, tests) in
-    omega (arith, some, c.split_field-in-loop-field.ensures.shorter)
+    omega (arith, some, c.split_field-in-loop-field.ensures.split.shorter)
 
 pub loop-field-preserved : goal.loop-field-preserved
 loop-field-preserved c =
     let some : 0 < length c.loop-field.field.now = search (rules, tests) in
-    faults_more c.loop-field.invariant some c.in_ok-number_fault.ensures c.split_field-in-loop-field.ensures
+    faults_more c.loop-field.invariant some c.in_ok-number_fault.ensures c.split_field-in-loop-field.ensures.split
 
 pub returns : goal.returns
 returns c =

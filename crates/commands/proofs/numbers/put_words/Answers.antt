@@ -11,7 +11,7 @@ use Rattle.commands.proofs.WordsPut.{words_start_lem, room_for_one, words_more, 
 use Rattle.commands.proofs.numbers.put_words.Goals as goal
 
 pub loop-field-init : goal.loop-field-init
-loop-field-init c = words_start_lem c.args.words.now c.split_field.ensures
+loop-field-init c = words_start_lem c.args.words.now c.split_field.ensures.split
 
 pub offset_bounds-words-count : goal.offset_bounds-words-count
 offset_bounds-words-count c =
@@ -29,14 +29,14 @@ overflow_add-count c =
 pub loop-field-smaller : goal.loop-field-smaller
 loop-field-smaller c =
     let some : 0 < length c.loop-field.field.now = search (rules, tests) in
-    omega (arith, some, c.split_field-in-loop-field.ensures.shorter)
+    omega (arith, some, c.split_field-in-loop-field.ensures.split.shorter)
 
 pub loop-field-preserved : goal.loop-field-preserved
 loop-field-preserved c =
     let some : 0 < length c.loop-field.field.now = search (rules, tests) in
     let word = c.word_in_field in
     let written = to_z-of_z {w = w16} (sfits_of word.type_inv) ∙ word.ensures in
-    words_more c.requires c.loop-field.invariant some (rw c.number_in_field.ensures at written) c.split_field-in-loop-field.ensures
+    words_more c.requires c.loop-field.invariant some (rw c.number_in_field.ensures at written) c.split_field-in-loop-field.ensures.split
 
 pub returns : goal.returns
 returns c =

@@ -7,4 +7,4 @@ use Rattle.outcomes.proofs.names.name_of.Goals as goal
 
 pub returns : goal.returns
 unfolding name_of
-returns c = c.name_in.ensures ∙ ap name_in (first_is _ c.split_field.ensures)
+returns c = c.name_in.ensures ∙ ap name_in (first_is _ c.split_field.ensures.split)
