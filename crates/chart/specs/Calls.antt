@@ -38,23 +38,38 @@ pub record Does (next : Next) (c : Chart) (answer : Answer) : Type 0 where
 unfoldable pub word_unless : ℕ → ℕ → ℕ → ℤ → ℤ → ℤ → Outcome ℤ
 word_unless number chart_kind kind a b c = unless_number number (word_for chart_kind kind a b c)
 
--- ---- what the cases of each call's answer say
+-- ---- what the cases of each call's answer say, for refusals of any type that has numbers
+
+-- `word_of` and `verdict_of` give the word that was judged and the verdict's number
+abbrev pub post_says_by : {J R : Type 0} → (J → ℤ) → (J → ℕ) → (R → ℕ) → Result J R → Answer
+post_says_by word_of verdict_of number_of (Ok a) = judged (word_of a) (verdict_of a)
+post_says_by word_of verdict_of number_of (Err r) = refused (number_of r)
+
+abbrev pub reanalysis_says_by : {R : Type 0} → (R → ℕ) → Result Retested R → Answer
+reanalysis_says_by number_of (Ok a) = reanalysed a.word a.passed
+reanalysis_says_by number_of (Err r) = refused (number_of r)
+
+abbrev pub correction_says_by : {R : Type 0} → (R → ℕ) → Result (Unit {0}) R → Answer
+correction_says_by number_of (Ok _) = corrected
+correction_says_by number_of (Err r) = refused (number_of r)
+
+abbrev pub renewal_says_by : {R : Type 0} → (R → ℕ) → Result Counts R → Answer
+renewal_says_by number_of (Ok a) = renewed a.rounds a.removed
+renewal_says_by number_of (Err r) = refused (number_of r)
+
+-- ---- the same for what the calls give
 
 unfoldable pub post_says : Result Judged Refusal → Answer
-post_says (Ok a) = judged a.word (verdict_number a.verdict)
-post_says (Err r) = refused (refusal_number r)
+post_says r = post_says_by (λ a. a.word) (λ a. verdict_number a.verdict) refusal_number r
 
 unfoldable pub reanalysis_says : Result Retested Refusal → Answer
-reanalysis_says (Ok a) = reanalysed a.word a.passed
-reanalysis_says (Err r) = refused (refusal_number r)
+reanalysis_says r = reanalysis_says_by refusal_number r
 
 unfoldable pub correction_says : Result (Unit {0}) Refusal → Answer
-correction_says (Ok _) = corrected
-correction_says (Err r) = refused (refusal_number r)
+correction_says r = correction_says_by refusal_number r
 
 unfoldable pub renewal_says : Result Counts Refusal → Answer
-renewal_says (Ok a) = renewed a.rounds a.removed
-renewal_says (Err r) = refused (refusal_number r)
+renewal_says r = renewal_says_by refusal_number r
 
 -- ---- a list of calls: "The first call takes the chart from building or reading, each later one the chart that the call before it gave
 -- back". By its contract a call gives `next_chart` and `answer_to`. `proofs/Runs` proves that these runs agree with the machine's

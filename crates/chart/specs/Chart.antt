@@ -70,10 +70,14 @@ pub record LimitsFor (s : State) (l : Limits) : Type 0 where
 abbrev pub not_built : Refusal → Called Counts
 not_built r = record { chart = zero_chart; answer = Err r }
 
--- what the cases of building's answer say, for the chart c that comes with the answer
+-- what the cases of building's answer say, for the chart c that comes with the answer and refusals of any type that has numbers
+abbrev pub build_says_by : {R : Type 0} → (R → ℕ) → Chart → Result Counts R → Outcome BuiltState
+build_says_by number_of c (Ok counts) = given (record { state = state_of c; rounds = counts.rounds; removed = counts.removed })
+build_says_by number_of c (Err r) = refused (number_of r)
+
+-- the same for what building gives
 unfoldable pub build_says : Chart → Result Counts Refusal → Outcome BuiltState
-build_says c (Ok counts) = given (record { state = state_of c; rounds = counts.rounds; removed = counts.removed })
-build_says c (Err r) = refused (refusal_number r)
+build_says c r = build_says_by refusal_number c r
 
 -- the chart that goes with building's answer
 unfoldable pub chart_after : Outcome BuiltState → Chart

@@ -12,9 +12,10 @@ pub mod sound;
 pub mod soundness;
 mod tail;
 
-ghost use Rattle.std.specs.Prelude.{◌≡◌};
+ghost use Rattle.std.specs.Prelude.{◌≡◌, ℕ, ℤ};
 ghost use Rattle.rules.specs.State.{add_word, replace_last};
 ghost use Rattle.rules.specs.Machine as machine;
+ghost use Rattle.judging.specs.Verdicts.{verdict_number};
 ghost use Rattle.chart.specs.Chart.{state_of, chart_of, with_status, zero_chart, fresh_chart};
 ghost use Rattle.chart.specs.Soundness.{HasRoom, HasLast};
 ghost use Rattle.chart.specs.Checked.{chart_says, checked_chart};
@@ -56,6 +57,47 @@ pub struct Counts {
 pub struct Judged {
     pub word: i16,
     pub verdict: Verdict,
+}
+
+// A word that was judged, and its verdict's number: the answer of a post, or two numbers. The number need not be one of a verdict.
+pub trait WordJudged: Copy {
+    ghost word_of: { Self → ℤ };
+
+    ghost verdict_of: { Self → ℕ };
+
+    fn word_judged(self) -> i16
+        ensures { result ≡ word_of self };
+
+    fn verdict_number(self) -> u16
+        ensures { result ≡ verdict_of self };
+}
+
+impl WordJudged for Judged {
+    ghost word_of = { λ judged. judged.word };
+
+    ghost verdict_of = { λ judged. verdict_number judged.verdict };
+
+    fn word_judged(self) -> i16 {
+        self.word
+    }
+
+    fn verdict_number(self) -> u16 {
+        self.verdict.number()
+    }
+}
+
+impl WordJudged for (i16, u16) {
+    ghost word_of = { λ judged. judged.0 };
+
+    ghost verdict_of = { λ judged. judged.1 };
+
+    fn word_judged(self) -> i16 {
+        self.0
+    }
+
+    fn verdict_number(self) -> u16 {
+        self.1
+    }
 }
 
 // The answer of a reanalysis: its word, and whether it passed.

@@ -31,9 +31,13 @@ unfoldable pub lines_say : Lines → rules.Lines
 lines_say (lines.Duplicate mean upper_warning upper_control) = rules.duplicate mean upper_warning upper_control
 lines_say (lines.TwoSided l) = rules.two_sided l.mean l.lower_warning l.upper_warning l.lower_control l.upper_control
 
+-- what asking for lines answers, for refusals of any type that has numbers
+abbrev pub lines_answer_says_by : {R : Type 0} → (R → ℕ) → Result Lines R → Outcome rules.Lines
+lines_answer_says_by number_of (Ok l) = given (lines_say l)
+lines_answer_says_by number_of (Err r) = refused (number_of r)
+
 unfoldable pub lines_answer_says : Result Lines Refusal → Outcome rules.Lines
-lines_answer_says (Ok l) = given (lines_say l)
-lines_answer_says (Err r) = refused (refusal_number r)
+lines_answer_says r = lines_answer_says_by refusal_number r
 
 unfoldable pub beyond_says : BeyondEach → rules.BeyondEach
 beyond_says b =

@@ -23,10 +23,14 @@ refusal_number case.NotSound = 14
 refusal_number case.NoRoom = 15
 refusal_number case.TooFewStand = 16
 
--- what a call gives: its answer, or the refusal's number
+-- what a call gives, for refusals of any type that has numbers: its answer, or the refusal's number
+abbrev pub result_says_by : {A R : Type 0} → (R → ℕ) → Result A R → Outcome A
+result_says_by number_of (Ok a) = given a
+result_says_by number_of (Err r) = refused (number_of r)
+
+-- the same for the refusals of the table
 unfoldable pub result_says : {A : Type 0} → Result A Refusal → Outcome A
-result_says (Ok a) = given a
-result_says (Err r) = refused (refusal_number r)
+result_says r = result_says_by refusal_number r
 
 -- "A refusal returns its number": the number, or 0 if the call gives its answer
 unfoldable pub answered_number : {A : Type 0} → Result A Refusal → ℕ

@@ -2,7 +2,7 @@
 // enum, and what a call gives is a `Result` with it.
 #![tactic(auto)]
 
-ghost use Rattle.std.specs.Prelude.{◌≡◌};
+ghost use Rattle.std.specs.Prelude.{◌≡◌, ℕ};
 ghost use Rattle.refusals.specs.Refusal.{refusal_number};
 
 // The table's rows, in its order.
@@ -48,5 +48,29 @@ impl Refusal {
         ensures { result ≡ refusal_number self }
     {
         self as u16
+    }
+}
+
+// What has a refusal's number: a refusal of the table, or a number, which need not stand in the table.
+pub trait Numbered: Copy {
+    ghost number_of: { Self → ℕ };
+
+    fn number(self) -> u16
+        ensures { result ≡ number_of self };
+}
+
+impl Numbered for Refusal {
+    ghost number_of = { refusal_number };
+
+    fn number(self) -> u16 {
+        Refusal::number(self)
+    }
+}
+
+impl Numbered for u16 {
+    ghost number_of = { λ n. n };
+
+    fn number(self) -> u16 {
+        self
     }
 }

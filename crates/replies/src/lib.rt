@@ -1,27 +1,27 @@
-// What the calls answer, as text at the front of a buffer. Each function answers the place after its text.
+// What the calls answer, as text at the front of a buffer. Each function answers the place after its text. A refusal may be any number.
 #![tactic(auto)]
 
 ghost use Rattle.std.specs.Prelude.{◌≡◌, ◌++◌, take};
-ghost use Rattle.refusals.specs.Refusal.{refusal_number, result_says};
-ghost use Rattle.chart.specs.Chart.{state_of, build_says};
-ghost use Rattle.chart.specs.Calls.{post_says, reanalysis_says, correction_says, renewal_says};
-ghost use Rattle.lines.specs.Lines.{lines_say, lines_answer_says};
-ghost use Rattle.store.specs.Store.{read_says};
+ghost use Rattle.refusals.specs.Refusal.{result_says_by};
+ghost use Rattle.chart.specs.Chart.{state_of, build_says_by};
+ghost use Rattle.chart.specs.Calls.{post_says_by, reanalysis_says_by, correction_says_by, renewal_says_by};
+ghost use Rattle.lines.specs.Lines.{lines_say, lines_answer_says_by};
+ghost use Rattle.store.specs.Store.{read_says_by};
 ghost use Rattle.printing.specs.Output.{Puts};
 ghost use Rattle.replies.specs.Faults.{fault_text};
 ghost use Rattle.replies.specs.Texts.{named_text, refusal_text, word_text, outcome_text, rounds_text, formed_text, building_text, answer_text};
 ghost use Rattle.replies.specs.Texts.{chart_line_text, lines_text, bytes_text, reading_text, list_text, state_text, five_lines_text};
 ghost use Rattle.rules.specs.Outcome.{given};
 
-use chart::{Chart, Counts, Judged, Retested};
+use chart::{Chart, Counts, Retested, WordJudged};
 use lines::{Lines, TwoSidedLines, parts_in};
 use printing::hex::put_hex;
 use printing::numbers::{put_decimal, put_parts, put_signed, put_words};
 use printing::put_text;
-use refusals::Refusal;
+use refusals::Numbered;
 
-pub fn put_formed(out: &mut [u8], formed: Result<i16, Refusal>) -> usize
-    ensures { Puts out.old 0 (formed_text (result_says formed)) out.new result }
+pub fn put_formed<R: Numbered>(out: &mut [u8], formed: Result<i16, R>) -> usize
+    ensures { Puts out.old 0 (formed_text (result_says_by R.number_of formed)) out.new result }
 {
     match formed {
         Ok(w) => put_word(out, w),
@@ -30,8 +30,8 @@ pub fn put_formed(out: &mut [u8], formed: Result<i16, Refusal>) -> usize
 }
 
 // The text does not show the chart that building gave: it is the same for every chart.
-pub fn put_build(out: &mut [u8], answer: Result<Counts, Refusal>) -> usize
-    ensures { (built : Chart) → Puts out.old 0 (building_text (build_says built answer)) out.new result }
+pub fn put_build<R: Numbered>(out: &mut [u8], answer: Result<Counts, R>) -> usize
+    ensures { (built : Chart) → Puts out.old 0 (building_text (build_says_by R.number_of built answer)) out.new result }
 {
     match answer {
         Ok(counts) => put_rounds(out, b"built ", counts),
@@ -39,20 +39,21 @@ pub fn put_build(out: &mut [u8], answer: Result<Counts, Refusal>) -> usize
     }
 }
 
-pub fn put_post(out: &mut [u8], answer: Result<Judged, Refusal>) -> usize
-    ensures { Puts out.old 0 (answer_text (post_says answer)) out.new result }
+// The verdict may be any number.
+pub fn put_post<J: WordJudged, R: Numbered>(out: &mut [u8], answer: Result<J, R>) -> usize
+    ensures { Puts out.old 0 (answer_text (post_says_by J.word_of J.verdict_of R.number_of answer)) out.new result }
 {
     match answer {
         Ok(judged) => {
-            let at = put_word(out, judged.word);
-            put_named(out, at, b" verdict ", u64::from(judged.verdict.number()))
+            let at = put_word(out, judged.word_judged());
+            put_named(out, at, b" verdict ", u64::from(judged.verdict_number()))
         }
         Err(refusal) => put_refusal(out, refusal.number()),
     }
 }
 
-pub fn put_reanalysis(out: &mut [u8], answer: Result<Retested, Refusal>) -> usize
-    ensures { Puts out.old 0 (answer_text (reanalysis_says answer)) out.new result }
+pub fn put_reanalysis<R: Numbered>(out: &mut [u8], answer: Result<Retested, R>) -> usize
+    ensures { Puts out.old 0 (answer_text (reanalysis_says_by R.number_of answer)) out.new result }
 {
     match answer {
         Ok(retested) => put_retested(out, retested),
@@ -60,8 +61,8 @@ pub fn put_reanalysis(out: &mut [u8], answer: Result<Retested, Refusal>) -> usiz
     }
 }
 
-pub fn put_correction(out: &mut [u8], answer: Result<(), Refusal>) -> usize
-    ensures { Puts out.old 0 (answer_text (correction_says answer)) out.new result }
+pub fn put_correction<R: Numbered>(out: &mut [u8], answer: Result<(), R>) -> usize
+    ensures { Puts out.old 0 (answer_text (correction_says_by R.number_of answer)) out.new result }
 {
     match answer {
         Ok(()) => put_text(out, 0, b"corrected"),
@@ -69,8 +70,8 @@ pub fn put_correction(out: &mut [u8], answer: Result<(), Refusal>) -> usize
     }
 }
 
-pub fn put_renewal(out: &mut [u8], answer: Result<Counts, Refusal>) -> usize
-    ensures { Puts out.old 0 (answer_text (renewal_says answer)) out.new result }
+pub fn put_renewal<R: Numbered>(out: &mut [u8], answer: Result<Counts, R>) -> usize
+    ensures { Puts out.old 0 (answer_text (renewal_says_by R.number_of answer)) out.new result }
 {
     match answer {
         Ok(counts) => put_rounds(out, b"renewed ", counts),
@@ -78,8 +79,8 @@ pub fn put_renewal(out: &mut [u8], answer: Result<Counts, Refusal>) -> usize
     }
 }
 
-pub fn put_lines(out: &mut [u8], answer: Result<Lines, Refusal>) -> usize
-    ensures { Puts out.old 0 (lines_text (lines_answer_says answer)) out.new result }
+pub fn put_lines<R: Numbered>(out: &mut [u8], answer: Result<Lines, R>) -> usize
+    ensures { Puts out.old 0 (lines_text (lines_answer_says_by R.number_of answer)) out.new result }
 {
     match answer {
         Ok(l) => put_each_line(out, l),
@@ -88,8 +89,8 @@ pub fn put_lines(out: &mut [u8], answer: Result<Lines, Refusal>) -> usize
 }
 
 // What reading a stored form answers. The text is the same for every chart that was taken.
-pub fn put_form_read(out: &mut [u8], answer: Result<(), Refusal>) -> usize
-    ensures { (taken : Chart) → Puts out.old 0 (reading_text (read_says taken answer)) out.new result }
+pub fn put_form_read<R: Numbered>(out: &mut [u8], answer: Result<(), R>) -> usize
+    ensures { (taken : Chart) → Puts out.old 0 (reading_text (read_says_by R.number_of taken answer)) out.new result }
 {
     match answer {
         Ok(()) => put_text(out, 0, b"read"),

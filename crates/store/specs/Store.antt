@@ -42,10 +42,14 @@ pub record Writes (c : Chart) (before after : List ℕ) (r : Result ℕ Refusal)
 
 -- ---- reading
 
--- what an answer and the chart that comes with it say
+-- what an answer and the chart that comes with it say, for refusals of any type that has numbers
+abbrev pub read_says_by : {R : Type 0} → (R → ℕ) → Chart → Result (Unit {0}) R → Outcome State
+read_says_by number_of c (Ok _) = given (state_of c)
+read_says_by number_of c (Err r) = refused (number_of r)
+
+-- the same for what reading gives
 unfoldable pub read_says : Chart → Result (Unit {0}) Refusal → Outcome State
-read_says c (Ok _) = given (state_of c)
-read_says c (Err r) = refused (refusal_number r)
+read_says c r = read_says_by refusal_number c r
 
 -- the chart that goes with reading's answer: "a refused build or read gives a chart of zeros"
 unfoldable pub chart_after_reading : Outcome State → Chart

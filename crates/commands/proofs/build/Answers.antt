@@ -1,6 +1,7 @@
 -- `commands::build` meets its contract.
 use mathlib.Core.Path.{ap, ◌∙◌}
 use Rattle.parsing.specs.Number.{kind_in_field}
+use Rattle.chart.specs.Chart.{build_says}
 use Rattle.commands.specs.Command.{words_in}
 use Rattle.rules.proofs.Buffer.{front_fits, front_counted, front_is}
 use Rattle.commands.proofs.Fields.{number_is, rest_is}
@@ -16,6 +17,7 @@ slice_bounds-build-end c =
     front_counted c.put_words-n.ensures
 
 pub returns : goal.returns
+unfolding build_says
 returns c =
     let split = c.split_field.ensures.split in
     let is_kind_lem = c.kind_in_field.ensures ∙ ap kind_in_field (c.number_in_field.ensures ∙ number_is _ split) in

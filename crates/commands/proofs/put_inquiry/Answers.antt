@@ -1,4 +1,5 @@
 -- `commands::put_inquiry` meets its contract, by the command's name.
+use Rattle.lines.specs.Lines.{lines_answer_says}
 use Rattle.commands.specs.Command.{inquiry_for}
 use Rattle.commands.specs.Reply.{reply_to}
 use Rattle.commands.specs.Answers.{word_reply}
@@ -9,7 +10,7 @@ unfolding inquiry_for reply_to word_reply
 returns-in-Word c = rw c.in-Word.is c.word.ensures
 
 pub returns-in-Lines : goal.returns-in-Lines
-unfolding inquiry_for reply_to
+unfolding inquiry_for reply_to lines_answer_says
 returns-in-Lines c =
     rw (c.in-Lines.is, ← c.lines_of.ensures) c.put_lines.ensures
 

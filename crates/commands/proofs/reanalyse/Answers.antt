@@ -4,13 +4,14 @@ use borrow.Author.Rules.{sfits_of}
 use mir.Syntax.{w64}
 use mir.Facts.{to_z-of_z}
 use Rattle.rules.specs.Machine.{reanalysis}
+use Rattle.chart.specs.Calls.{reanalysis_says}
 use Rattle.commands.specs.Command as command
 use Rattle.commands.specs.Reply.{reply_to, chart_after_command}
 use Rattle.commands.proofs.Replying.{replies_call}
 use Rattle.commands.proofs.reanalyse.Goals as goal
 
 pub returns : goal.returns
-unfolding reply_to chart_after_command
+unfolding reply_to chart_after_command reanalysis_says
 returns c =
     let told = c.struct_told-3-1.given in
     let found = c.readings_in-f in

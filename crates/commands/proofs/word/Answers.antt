@@ -2,11 +2,12 @@
 use borrow.Author.Rules.{sfits_of}
 use mir.Syntax.{w64}
 use mir.Facts.{to_z-of_z}
+use Rattle.refusals.specs.Refusal.{result_says}
 use Rattle.commands.specs.Answers.{word_reply}
 use Rattle.commands.proofs.word.Goals as goal
 
 pub returns : goal.returns
-unfolding word_reply
+unfolding word_reply result_says
 returns c =
     let told = c.struct_told-3-1.given in
     let found = c.readings_in-f in
