@@ -1,14 +1,13 @@
-// Answers as numbers, three to each.
+// Answers as numbers, three to each. A refusal may be any number.
 ghost use Rattle.std.specs.Prelude.{◌≡◌, ◌+◌, ◌≤◌, length};
 ghost use Rattle.rules.specs.Buffer.{overwritten};
 ghost use Rattle.rules.specs.Machine.{refused};
-ghost use Rattle.refusals.specs.Refusal.{refusal_number};
-ghost use Rattle.chart.specs.Calls.{post_says, reanalysis_says, correction_says, renewal_says};
+ghost use Rattle.chart.specs.Calls.{post_says_by, reanalysis_says_by, correction_says_by, renewal_says_by};
 ghost use Rattle.lists.specs.Encoding.{answer_size, numbers_of};
 ghost use Rattle.lists.specs.Runs.{said_numbers, Counted};
 
-use chart::{Counts, Judged, Retested};
-use refusals::Refusal;
+use chart::{Counts, Retested, WordJudged};
+use refusals::Numbered;
 
 // How many numbers an answer has.
 pub const ANSWER_SIZE: usize = 3;
@@ -21,23 +20,24 @@ pub struct Said {
     pub second: i64,
 }
 
-#[tactic(auto, unfolding(crate::specs::Encoding::numbers_of, crate::specs::Runs::said_numbers, chart::specs::Calls::post_says))]
-pub fn said_by_post(answer: Result<Judged, Refusal>) -> Said
-    ensures { said_numbers result ≡ numbers_of (post_says answer) }
+// The verdict may be any number.
+#[tactic(auto, unfolding(crate::specs::Encoding::numbers_of, crate::specs::Runs::said_numbers))]
+pub fn said_by_post<J: WordJudged, R: Numbered>(answer: Result<J, R>) -> Said
+    ensures { said_numbers result ≡ numbers_of (post_says_by J.word_of J.verdict_of R.number_of answer) }
 {
     match answer {
         Ok(judged) => Said {
             number: 1,
-            first: i64::from(judged.word),
-            second: i64::from(judged.verdict.number()),
+            first: i64::from(judged.word_judged()),
+            second: i64::from(judged.verdict_number()),
         },
-        Err(refusal) => refused(refusal),
+        Err(refusal) => refused(refusal.number()),
     }
 }
 
-#[tactic(auto, unfolding(crate::specs::Encoding::numbers_of, crate::specs::Runs::said_numbers, chart::specs::Calls::reanalysis_says))]
-pub fn said_by_reanalysis(answer: Result<Retested, Refusal>) -> Said
-    ensures { said_numbers result ≡ numbers_of (reanalysis_says answer) }
+#[tactic(auto, unfolding(crate::specs::Encoding::numbers_of, crate::specs::Runs::said_numbers))]
+pub fn said_by_reanalysis<R: Numbered>(answer: Result<Retested, R>) -> Said
+    ensures { said_numbers result ≡ numbers_of (reanalysis_says_by R.number_of answer) }
 {
     match answer {
         Ok(retested) => Said {
@@ -45,13 +45,13 @@ pub fn said_by_reanalysis(answer: Result<Retested, Refusal>) -> Said
             first: i64::from(retested.word),
             second: i64::from(retested.passed),
         },
-        Err(refusal) => refused(refusal),
+        Err(refusal) => refused(refusal.number()),
     }
 }
 
-#[tactic(auto, unfolding(crate::specs::Encoding::numbers_of, crate::specs::Runs::said_numbers, chart::specs::Calls::correction_says))]
-pub fn said_by_correction(answer: Result<(), Refusal>) -> Said
-    ensures { said_numbers result ≡ numbers_of (correction_says answer) }
+#[tactic(auto, unfolding(crate::specs::Encoding::numbers_of, crate::specs::Runs::said_numbers))]
+pub fn said_by_correction<R: Numbered>(answer: Result<(), R>) -> Said
+    ensures { said_numbers result ≡ numbers_of (correction_says_by R.number_of answer) }
 {
     match answer {
         Ok(()) => Said {
@@ -59,15 +59,15 @@ pub fn said_by_correction(answer: Result<(), Refusal>) -> Said
             first: 0,
             second: 0,
         },
-        Err(refusal) => refused(refusal),
+        Err(refusal) => refused(refusal.number()),
     }
 }
 
 // The counts of a renewal are small, so they keep their value as signed numbers.
-#[tactic(auto, unfolding(crate::specs::Encoding::numbers_of, crate::specs::Runs::said_numbers, chart::specs::Calls::renewal_says))]
-pub fn said_by_renewal(answer: Result<Counts, Refusal>) -> Said
-    requires { Counted (renewal_says answer) }
-    ensures { said_numbers result ≡ numbers_of (renewal_says answer) }
+#[tactic(auto, unfolding(crate::specs::Encoding::numbers_of, crate::specs::Runs::said_numbers))]
+pub fn said_by_renewal<R: Numbered>(answer: Result<Counts, R>) -> Said
+    requires { Counted (renewal_says_by R.number_of answer) }
+    ensures { said_numbers result ≡ numbers_of (renewal_says_by R.number_of answer) }
 {
     match answer {
         Ok(counts) => Said {
@@ -75,7 +75,7 @@ pub fn said_by_renewal(answer: Result<Counts, Refusal>) -> Said
             first: counts.rounds as i64,
             second: counts.removed as i64,
         },
-        Err(refusal) => refused(refusal),
+        Err(refusal) => refused(refusal.number()),
     }
 }
 
@@ -89,12 +89,12 @@ pub fn put_answer(answers: &mut [i64], place: usize, said: Said)
 }
 
 #[tactic(auto, unfolding(crate::specs::Encoding::numbers_of, crate::specs::Runs::said_numbers))]
-fn refused(refusal: Refusal) -> Said
-    ensures { said_numbers result ≡ numbers_of (refused (refusal_number refusal)) }
+fn refused(n: u16) -> Said
+    ensures { said_numbers result ≡ numbers_of (refused n) }
 {
     Said {
         number: 0,
-        first: i64::from(refusal.number()),
+        first: i64::from(n),
         second: 0,
     }
 }
