@@ -40,18 +40,27 @@ module _ (text : List ℕ) (start end : ℕ) (short : length text ≤ line_most)
   unfolding line_of
   a_comment some e = by_fields text short ∙ ap line_of (one_found f some) ∙ rw (comment_found f some, e)
 
+-- by the first field itself, and its places
+module _ (text first rest : List ℕ) (short : length text ≤ line_most) (split : SplitAt text first rest) where
+  pub no_field_found : length first ≡ 0 → line_in text ≡ passed_over
+  no_field_found none =
+      no_field text split.start split.end short split.first (omega (arith, places_count split, split.first.ordered))
+
+  pub comment_found_first : 0 < length first → eqb (get_or first 0 0) 35 ≡ true → line_in text ≡ passed_over
+  comment_found_first some e =
+      a_comment text split.start split.end short split.first (omega (arith, places_count split)) (rw (first_byte split some) at e)
+
 -- by the first field itself
-module _ (text first rest : List ℕ) (short : length text ≤ line_most) where
-  module _ (split : SplitAt text first rest) where
-    pub nothing_there : length first ≡ 0 → line_in text ≡ passed_over
-    nothing_there none =
-        no_field text split.start split.end short split.first (omega (arith, places_count split, split.first.ordered))
+module _ (text first rest : List ℕ) (short : length text ≤ line_most) (split : IsSplit text first rest) where
+  pub nothing_there : length first ≡ 0 → line_in text ≡ passed_over
+  unfolding line_of
+  nothing_there none = by_fields text short ∙ ap line_of (split.none none).0
 
-    pub comment_there : 0 < length first → eqb (get_or first 0 0) 35 ≡ true → line_in text ≡ passed_over
-    comment_there some e =
-        a_comment text split.start split.end short split.first (omega (arith, places_count split)) (rw (first_byte split some) at e)
+  module _ (some : 0 < length first) where
+    pub comment_there : eqb (get_or first 0 0) 35 ≡ true → line_in text ≡ passed_over
+    unfolding line_of
+    comment_there e = by_fields text short ∙ ap line_of (split.some some) ∙ rw (comment_is first some, e)
 
-  module _ (split : IsSplit text first rest) (some : 0 < length first) where
     -- a command, by its name and the fault of the fields after it
     module _ (e : eqb (get_or first 0 0) 35 ≡ false) (n : Name) (named : n ≡ name_in first)
         (found : Finding) (is_found : found ≡ fault_for n (fields_of rest)) where

@@ -4,7 +4,7 @@ use Prim.Native.Nat.{◌<◌}
 use lib.ListN.{length}
 use borrow.Author.Tests.{eq-eqb, ne_eqb}
 use Rattle.std.proofs.Common.{rules, tests}
-use Rattle.commands.proofs.Lines.{too_long, nothing_there, comment_there, nothing_said, a_fault, without_fault, line_fed}
+use Rattle.commands.proofs.Lines.{too_long, no_field_found, comment_found_first, nothing_said, a_fault, without_fault, line_fed}
 use Rattle.commands.proofs.answer.Goals as goal
 use Rattle.commands.proofs.answer.Goals.{then-is_empty-via-then-is_empty, then-is_empty-via-else-is_empty+then-first-eq35}
 
@@ -18,10 +18,10 @@ returns-then-is_empty c =
     elim c.then-is_empty.branch [
       | then-is_empty-via-then-is_empty w ↦
           let none : length c.split_field.result.0.now ≡ 0 = search (rules, tests) in
-          nothing_said _ _ (nothing_there _ _ _ short places none)
+          nothing_said _ _ (no_field_found _ _ _ short places none)
       | then-is_empty-via-else-is_empty+then-first-eq35 w ↦
           let some : 0 < length c.split_field.result.0.now = search (rules, tests) in
-          nothing_said _ _ (comment_there _ _ _ short places some (eq-eqb _ _ w.if-first-eq35.true))
+          nothing_said _ _ (comment_found_first _ _ _ short places some (eq-eqb _ _ w.if-first-eq35.true))
     ]
 
 pub returns-in-Err : goal.returns-in-Err
