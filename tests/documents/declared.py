@@ -1,4 +1,4 @@
-"""What the crates declare: names of definitions and laws (.antt), of functions and types (.rt), and must-fail edits.
+"""What the crates declare: names of definitions and laws (.antt), of functions, types and traits (.rt), and must-fail edits.
 
 Only a declaration counts, not a mention: not a name in a clause (`ensures { .. }`), in a `ghost use` line or in a comment. What the proof
 of a function declares (its goals and its invariants, in proofs/FUNCTION) counts only where the file is named.
@@ -21,8 +21,8 @@ ANTT_NAMES = re.compile(r"([^\s:=(){}]+(?: +[^\s:=(){}]+)*)(?: +(?:%s))* +:(?: |
 # The files of the proof of one function. A function whose proof the checker finds by itself has none.
 OF_FUNCTION = ("Answers", "Invariants", "Proof")
 
-RT_ITEM = re.compile(r'^( *)(?:pub +)?(?:extern +"C" +)?(fn|struct|enum|const|mod) +(\w+)', re.MULTILINE)
-RT_IMPL = re.compile(r"^impl(?:<[^>]*>)? +(\w+)[^{]*\{(.*?)^\}", re.MULTILINE | re.DOTALL)
+RT_ITEM = re.compile(r'^( *)(?:pub +)?(?:extern +"C" +)?(fn|struct|enum|trait|const|mod) +(\w+)', re.MULTILINE)
+RT_IMPL = re.compile(r"^(?:impl(?:<[^>]*>)?|(?:pub +)?trait) +(\w+)[^{]*\{(.*?)^\}", re.MULTILINE | re.DOTALL)
 RT_BODY = re.compile(r"^(?:pub +)?(struct|enum) +(\w+)[^{;]*\{(.*?)^\}", re.MULTILINE | re.DOTALL)
 RT_FIELD = re.compile(r"(\w+) *:(?!:)")
 RT_CASE = re.compile(r"\s*(\w+)")
@@ -122,7 +122,7 @@ def rt_files(folder):
 
 
 def rt_file(text):
-    """Items, and of each type its fields, its cases and the functions and constants of its `impl`."""
+    """Items, and of each type its fields, its cases and the functions and constants of its `impl`; of each trait its functions."""
     text = re.sub(r"//[^\n]*", "", text)
     items = {found[3] for found in RT_ITEM.finditer(text) if found[1] == ""}
     members = {}
